@@ -6,7 +6,7 @@ ghost use Rattle.book_model.specs.lines.Requests.{AreSpelled};
 use book_model::{Fields, FromWord, Request, ToWord};
 use std::alloc::{AllocError, Global};
 
-/// What a state is multiplied by, what is added then, and of what multiples are left out (Knuth, MMIX).
+/// The multiplier, the increment and the modulus of the generator (Knuth, MMIX).
 const MULTIPLIER: u128 = 6_364_136_223_846_793_005;
 
 const INCREMENT: u128 = 1_442_695_040_888_963_407;

@@ -1,4 +1,4 @@
--- How wide the ends of a bisection are, and how close its open tests.
+-- How wide the bounds of a bisection are, and how close its undecided tests.
 use Rattle.std.specs.Prelude.{◌≡◌, ℕ, ◌+◌, ◌^◌, ◌≤◌, true, pos, neg_ℤ, refl, if◌then◌else◌, ◌==◌, Result, Ok, Err}
 use Rattle.std.proofs.Common.{arith}
 use Rattle.std.proofs.lemmas.Int.{ints}

@@ -1,4 +1,4 @@
--- Turns of a bisection, one after another.
+-- Iterations of a bisection, one after another.
 use Rattle.std.specs.Prelude.{◌≡◌, ℕ, zero, suc, ◌-◌, ◌≤◌, Bool, true, false, if◌then◌else◌, refl}
 use Rattle.std.proofs.Common.{arith}
 use Rattle.book_model.specs.declared.site.Site.TheVariants.{BisectEnd}
@@ -6,7 +6,7 @@ use Rattle.book_model.specs.programs.Bisection.{middle_of, are_near_of, has_pass
 use Rattle.book_model.specs.numbers.Expressions.{Expression}
 use Rattle.book_model.specs.programs.Programs.{Program, answer, void, bind}
 
--- what follows the test of the ends, where so many turns are left
+-- what follows the test of the bounds, where so many iterations are left
 unfoldable pub after_test : ℕ → (Expression → Program Expression) → (y l u : Expression) → Bool → Program Expression
 after_test zero f y l u near = if near then answer (middle_of l u) else void BisectEnd
 after_test (suc more) f y l u near =

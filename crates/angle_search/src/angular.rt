@@ -8,17 +8,17 @@ ghost use Rattle.book_model.specs.programs.Programs.{Program};
 use book_model::Fail;
 use encl_core::{Enclosure, Trail};
 
-/// An angle that grows with time, as the longitude of the sun or the phase of the moon does, by a course: by what is known of it
-/// over a stretch of time.
+/// An angle that grows with time, as the longitude of the sun or the phase of the moon does, by a linear model: what is known of it
+/// over an interval of time.
 ///
 /// A bisection asks the angle at many moments that lie close together, and of each no more than on which side of another angle
-/// it is. By a course it is told at a moment of the stretch for less than `at` takes, though only as narrowly as it stays
-/// over the stretch.
+/// it is. By a linear model it is told at a moment of the interval for less than `at` takes, though only as narrowly as it stays
+/// over the interval.
 pub trait Angular<E: Enclosure>: Drop {
     /// The angle at a moment, as a formula.
     ghost angle_of: { Expression → Program Expression };
 
-    /// How wide the angle is at the scale 2⁻⁵⁶, by the width of the moment. Both count 2⁻⁶⁴.
+    /// How wide the angle is at the scale 2⁻⁵⁶, by the width of the moment. Both are in units of 2⁻⁶⁴.
     ghost spread: { ℕ → ℕ };
 
     // Any number of tests: a bound on them would be a condition on angles that nobody needs.
@@ -29,19 +29,19 @@ pub trait Angular<E: Enclosure>: Drop {
         ensures measured { Measured1 E.BITS E.shown (3 * 2 ^ 37) IsMoment
             (λ v. IsAbout (2 ^ 58) (spread v)) x result };
 
-    // What the calls say of an enclosure they say of every number that it holds: so a course needs
-    // no law of its own, and no stretch has to be the right one.
-    /// The angle at a moment by the course, in degrees. Nothing is said of its width. Where it answers it has made the tests of
-    /// its formula. A failure says nothing of the formula: it is void where the moment isn't one of the course.
+    // What the calls say of an enclosure they say of every number that it holds: so a linear model needs
+    // no law of its own, and no interval has to be the right one.
+    /// The angle at a moment by the linear model, in degrees. Nothing is said of its width. Where it answers it has made the
+    /// tests of its formula. A failure says nothing of the formula: it is void where the moment isn't one of the linear model.
     fn near(&self, x: E, trail: &mut Trail) -> Result<E, Fail>
         ensures leads { IfOk result (λ a. Follows1 E.shown angle_of x trail.old.count
             trail.new.count
             (Ok a)) };
 
-    /// The angle by its course over a stretch of time, or none where it isn't known there. The tests are no part of the run.
+    /// The angle by its linear model over an interval of time, or none where it isn't known there. The tests are no part of the run.
     fn over(&self, stretch: E, trail: &Trail) -> Option<Self>;
 
-    /// About the time in days in which the angle grows by so many degrees. Nothing rests on it but the stretch over which a
-    /// course is taken.
+    /// About the time in days in which the angle grows by so many degrees. Nothing rests on it but the interval over which a
+    /// linear model is taken.
     fn time_of(&self, degrees: E) -> E;
 }

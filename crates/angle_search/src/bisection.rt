@@ -1,4 +1,4 @@
-//! Bisection: the half is kept in which an angle is passed, until the ends are near.
+//! Bisection: the half is kept in which an angle is passed, until the bounds are near.
 ghost use Rattle.std.specs.Prelude.{◌≡◌, ◌≤◌, ◌+◌, ◌*◌, ◌^◌, ℕ, IfErr};
 ghost use Rattle.book_model.specs.programs.Calls.{Decides2, Encloses2, Follows2, Follows3};
 ghost use Rattle.book_model.specs.programs.Widths.{IsAbout, IsMoment, IsUpTo, IsClose, Measures};
@@ -13,7 +13,7 @@ use book_model::tables::{HALF, HUNDRED_THOUSANDTH};
 use book_model::{Fail, Site};
 use encl_core::{Enclosure, Trail, less_step, wrap_step};
 
-/// How many turns a bisection makes at most.
+/// How many iterations a bisection makes at most.
 const TURNS: u32 = 64;
 
 /// Half a turn of the circle, in degrees.
@@ -84,10 +84,10 @@ pub(crate) fn has_passed_at<E: Enclosure, F: Angular<E>>(
     has_passed(angle, target, trail)
 }
 
-// A recursion on the turns that are left, as the definition is, with the test of the ends first.
-/// Bisection by so many turns at most. It is void at `bisect-end` where the ends aren't near then, and fails where the function
-/// does. With `m` for the greatest width of all middles, the widths that the turns meet need not be followed: each
-/// middle is at most two units wider than the wider end.
+// A recursion on the iterations that are left, as the definition is, with the test of the bounds first.
+/// Bisection by so many iterations at most. It is void at `bisect-end` where the bounds aren't near then, and fails where the
+/// function does. With `m` for the greatest width of all middles, the widths that the iterations meet need not be followed: each
+/// middle is at most two units wider than the wider bound.
 #[tactic(auto, using(book_model::proofs::Leads::leading, crate::proofs::Turns::turning))]
 fn bisected<E: Enclosure, F: Angular<E>>(
     more: u32,
@@ -119,12 +119,12 @@ fn bisected<E: Enclosure, F: Angular<E>>(
     }
 }
 
-/// The number between `low` and `high` at which an angle passes `y`, in degrees, by bisection until the ends are less than a
-/// hundred-thousandth apart: the middle of the last ends, and not the number to full precision (Reingold and Dershowitz,
-/// Calendrical Calculations, chapter 1). Each of 64 turns at most makes one test at `bisect-end`, those of the angle, and two at
-/// `bisect`; where more turns would be made it is void at `bisect-end`. Of ends that are moments it is at most 2⁻⁴⁰
-/// wider than the wider of them. A turn takes the angle by a course where that decides it, and at the middle itself where not;
-/// the answer and the tests are the same.
+/// The number between `low` and `high` at which an angle passes `y`, in degrees, by bisection until the bounds are less than a
+/// hundred-thousandth apart: the middle of the last bounds, and not the number to full precision (Reingold and Dershowitz,
+/// Calendrical Calculations, chapter 1). Each of 64 iterations at most makes one test at `bisect-end`, those of the angle, and
+/// two at `bisect`; where more iterations would be made it is void at `bisect-end`. Of bounds that are moments it is at most
+/// 2⁻⁴⁰ wider than the wider of them. An iteration takes the angle by a linear model where that decides it, and at the middle
+/// itself where not; the answer and the tests are the same.
 #[tactic(auto, unfolding(book_model::specs::programs::Bisection::invert_of))]
 pub fn invert_angular<E: Enclosure, F: Angular<E>>(
     f: &F,

@@ -1,7 +1,7 @@
 //! Bisection over any angle that grows with time: the moment at which it passes a given angle. Angles are in degrees.
 //!
-//! - `Angular`: such an angle, as a formula and as calls: at a moment, and by its course over a stretch of time;
-//! - `invert_angular`: the bisection, which tries each turn by a course first.
+//! - `Angular`: such an angle, as a formula and as calls: at a moment, and by its linear model over an interval of time;
+//! - `invert_angular`: the bisection, which tries each iteration by a linear model first.
 #![tactic(auto)]
 
 mod angular;

@@ -1,8 +1,8 @@
-//! A turn of a bisection by a course of its angle, or else by the angle at the moment itself.
+//! An iteration of a bisection by a linear model of its angle, or else by the angle at the moment itself.
 //!
-//! A course is wide, so a test by it may be open where that of the angle is not. A turn by a course is therefore a try: where it
-//! is decided it has made the tests of the formula, and where not its tests are taken back, and the angle is evaluated. So an
-//! open test of a turn is always one of the angle at the moment, as narrow as that is.
+//! A linear model is wide, so a test by it may be undecided where that of the angle is not. An iteration by a linear model is
+//! therefore a try: where it is decided it has made the tests of the formula, and where not its tests are taken back, and the
+//! angle is evaluated. So an undecided test of an iteration is always one of the angle at the moment, as narrow as that is.
 ghost use Rattle.std.specs.Prelude.{◌≡◌, ◌≤◌, ◌+◌, ◌*◌, ◌^◌, ℕ, Ok, IfOk, IfErr, IfSome, IsNone};
 ghost use Rattle.book_model.specs.programs.Calls.{Decides2};
 ghost use Rattle.book_model.specs.programs.Widths.{IsAbout, IsMoment, IsClose};
@@ -15,7 +15,7 @@ use crate::stretches::stretch_by;
 use book_model::Fail;
 use encl_core::{Enclosure, Trail};
 
-/// Whether an angle has passed another at a number, by a course. Where it answers it has made the tests of its formula; a
+/// Whether an angle has passed another at a number, by a linear model. Where it answers it has made the tests of its formula; a
 /// failure says nothing.
 fn has_passed_near<E: Enclosure, F: Angular<E>>(
     course: &F,
@@ -49,7 +49,7 @@ fn tried<E: Enclosure, F: Angular<E>>(
     )
 }
 
-/// The same by a course over the stretch that a try left open, if it left one and the angle is known there.
+/// The same by a linear model over the interval that a try left undecided, if it left one and the angle is known there.
 fn learned<E: Enclosure, F: Angular<E>>(
     f: &F,
     known: &mut Known<F>,
@@ -76,7 +76,7 @@ fn learned<E: Enclosure, F: Angular<E>>(
     }
 }
 
-/// The same by the course before the last, or else by one that is learned.
+/// The same by the linear model before the last, or else by one that is learned.
 fn decided_before<E: Enclosure, F: Angular<E>>(
     f: &F,
     known: &mut Known<F>,
@@ -94,7 +94,7 @@ fn decided_before<E: Enclosure, F: Angular<E>>(
     }
 }
 
-/// The same by the last course, or where the number doesn't lie in it by the one before, or else by one that is learned.
+/// The same by the last linear model, or where the number doesn't lie in it by the one before, or else by one that is learned.
 fn decided<E: Enclosure, F: Angular<E>>(
     f: &F,
     known: &mut Known<F>,
@@ -113,8 +113,8 @@ fn decided<E: Enclosure, F: Angular<E>>(
     }
 }
 
-/// Whether an angle has passed another at a number: by a course where that decides it, and else by the angle at the number. An
-/// open test is always one of the angle at the number.
+/// Whether an angle has passed another at a number: by a linear model where that decides it, and else by the angle at the
+/// number. An undecided test is always one of the angle at the number.
 pub(crate) fn turned<E: Enclosure, F: Angular<E>>(
     f: &F,
     known: &mut Known<F>,

@@ -149,7 +149,7 @@ unfolding opposite
 far_below_three = opposite_held _ _ _ _ _ refl refl beyond_three
 
 -- ---- two arctangents in a piece
--- ends that hold the arctangents of two numbers that are at most d apart
+-- endpoints that hold the arctangents of two numbers that are at most d apart
 pub record AreApart (d lo hi low high : ℤ) : Type 0 where
   pub climb : (low *ℤ pos 10) ≤ℤ (hi *ℤ pos 10 +ℤ d *ℤ pos 573)
   pub rise : lo ≤ℤ high

@@ -108,7 +108,7 @@ from_spans k s (between a b) h = record {
   ends = (record { cross = omega (arith, ints, h.above.cross) }, record { cross = omega (arith, ints, h.below.cross) });
 }
 
--- ends within -180..180 stay there at every scale of which something is promised
+-- endpoints within -180..180 stay there at every scale of which something is promised
 pub span_inside : {E : Type 0} (shown : E → Interval) (bits : ℕ) (lo hi : ℤ) (r : E) → neg_ℤ half_turn ≤ℤ lo → lo ≤ℤ hi → hi ≤ℤ half_turn
     → ((w : ℕ) (b : Bound) → IsNarrow w b (between (units_of_56 lo) (units_of_56 hi)) → IsNarrow w (spanned_bound (limits_of bits) b) (shown r))
     → IsTrue (is_scale bits) → shown r ⊆ all_around
@@ -121,7 +121,7 @@ pub around_inside : {E : Type 0} (shown : E → Interval) (bits : ℕ) (r : E)
     → IsTrue (is_scale bits) → shown r ⊆ all_around
 around_inside shown bits r f s = span_inside shown bits (neg_ℤ half_turn) half_turn r (omega (arith, ints)) (omega (arith, ints)) (omega (arith, ints)) f s
 
--- ends that are moved there
+-- endpoints that are moved there
 abbrev pub moved : ℤ → ℤ
 moved x = int_max (int_min x half_turn) (neg_ℤ half_turn)
 

@@ -22,8 +22,8 @@ use Rattle.arc_series.proofs.ArcAnchors.{AreApart, apart, AreMeeting, meeting}
 use Rattle.arc_series.proofs.ArcRates.{ends_rated}
 use Rattle.arc_series.proofs.ArcRanges.{in_piece, ranged, from_lower, from_lesser, up_to_greater}
 
--- ---- the ends of a part
--- two numbers of a piece in order, and ends that hold their arctangents, each at most 4 apart
+-- ---- the endpoints of a part
+-- two numbers of a piece in order, and endpoints that hold their arctangents, each at most 4 apart
 pub record IsPart (p : Piece) (k m a b c d : ℤ) : Type 0 where
   pub from : begin_56 p ≤ℤ k
   pub order : k ≤ℤ m
@@ -149,7 +149,7 @@ at_last_edge Above k a b e l h =
     (omega (arith, ints, m.second), omega (arith, ints, m.first))
 at_last_edge FarAbove k a b e l h = absurd (omega (arith, ints, e, l))
 
--- ---- where two ends meet a piece
+-- ---- where two endpoints meet a piece
 pub part_order : (p : Piece) (lo hi k m : ℤ) → lo ≤ℤ hi → k ≡ int_max (begin_56 p) lo → m ≡ int_min (end_56 p) hi → begin_56 p ≤ℤ hi → lo ≤ℤ end_56 p → k ≤ℤ m
 part_order FarBelow lo hi k m o e f h l = omega (arith, ints, clamps, o, e, f, h, l)
 part_order Below lo hi k m o e f h l = omega (arith, ints, clamps, o, e, f, h, l)
@@ -166,7 +166,7 @@ record IsPlaced (p : Piece) (lo hi k m : ℤ) : Type 0 where
   begins : lo ≤ℤ (first_edge p).place → k ≡ (first_edge p).place
   ends : (last_edge p).place ≤ℤ hi → m ≡ (last_edge p).place
 
--- two ends that meet a piece, and the part that they have in common with it
+-- two endpoints that meet a piece, and the part that they have in common with it
 pub record AreCommon (p : Piece) (lo hi k m : ℤ) : Type 0 where
   pub order : lo ≤ℤ hi
   pub least : negsuc (2 ^ 127 - 1) ≤ℤ lo
@@ -369,7 +369,7 @@ second_reach f e l j k lo hi None o fe el p q = none_reaches f e l j k lo hi o f
 second_reach f e l j k lo hi (Some y) o fe el p q = second_reaches f e l j k lo hi y o fe el p q
 
 -- ---- all pieces
--- two ends that don't meet a piece
+-- two endpoints that don't meet a piece
 pub unbegun : (p : Piece) (hi : ℤ) → negsuc (2 ^ 127 - 1) ≤ℤ hi → hi <ℤ begin_56 p → hi <ℤ (first_edge p).place
 unbegun FarBelow hi l h = absurd (omega (arith, ints, l, h))
 unbegun Below hi l h = h

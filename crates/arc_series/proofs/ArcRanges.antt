@@ -28,7 +28,7 @@ in_piece Above k h l = record { from = record { cross = omega (arith, ints, h) }
 in_piece FarAbove k h l = record { from = record { cross = omega (arith, ints, h) }; to = tt }
 
 -- ---- what an arctangent is off those at the edges, and at -1, 0 and 1
--- ends that hold the arctangent of k in a piece
+-- endpoints that hold the arctangent of k in a piece
 abbrev pub Holds : Piece → (k lo hi : ℤ) → Type 0
 Holds p k lo hi = (piece_of p).arc 40 (units_of_56 k) ⊆ between (units_of_56 lo) (units_of_56 hi)
 

@@ -222,7 +222,7 @@ climb_ends s k m a b c d (climbing {b = e} {c = f} h) i j =
     climb_whole s k m b c (le_trans _ f _ j.ends.0 (le_trans f _ _ h
     (plus_mono e (units_of_56 b) (times rate (risen (at_60 s) (units_of_56 k) (units_of_56 m))) _ i.ends.1 (le_refl _))))
 
--- ends that hold the arctangents of two numbers of a piece climb at a rate
+-- endpoints that hold the arctangents of two numbers of a piece climb at a rate
 pub ends_rated : (p : Piece) (s : ℕ) (top k m a b c d : ℤ) → InPiece (piece_of p) (units_of_56 k) → InPiece (piece_of p) (units_of_56 m) → IsRate s top → k ≤ℤ m
     → m ≤ℤ top
     → (piece_of p).arc 40 (units_of_56 k) ⊆ between (units_of_56 a) (units_of_56 b)

@@ -24,7 +24,7 @@ use Rattle.arc_series.proofs.ArcValues.{radian, radian_near, at_58, factor}
 use Rattle.arc_series.proofs.Slopes.{lower_slow, upper_slow}
 
 -- ---- in radians
--- the lower end of the second interval is at most e above that of the first
+-- the lower endpoint of the second interval is at most e above that of the first
 data IsSlow (e : Fraction) : Interval → Interval → Type 0 where
   slow : {a b c d : Fraction} → c ≤F plus a e → IsSlow e (between a b) (between c d)
 
@@ -91,7 +91,7 @@ series_slow x y e w v h k = signed_slow x y e (is_at_most zero_F x) (is_at_most 
 abbrev pub rate : Fraction
 rate = record { num = pos 573; below = 9 }
 
--- the lower end of the second interval is at most 57.3 e above the upper end of the first
+-- the lower endpoint of the second interval is at most 57.3 e above the upper endpoint of the first
 pub data Climbs (e : Fraction) : Interval → Interval → Type 0 where
   climbing : {a b c d : Fraction} → c ≤F plus b (times rate e) → Climbs e (between a b) (between c d)
 

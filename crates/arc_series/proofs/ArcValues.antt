@@ -161,7 +161,7 @@ series_mirrored n q w t s x d l c g =
     (rw (series_negative q x l g.not_above) (negative_within (computed_near q w t s (opposite x) c g)))
 
 -- ---- the degrees of a radian
--- a number that counts 2^-72
+-- a number in units of 2^-72
 abbrev at_72 : ℕ → Fraction
 at_72 n = record { num = pos n; below = 2 ^ 72 - 1 }
 
@@ -169,7 +169,7 @@ pi_at_16 : pi_at 16 ⊆ between (at_72 14835751850141947581203) (at_72 148357518
 unfolding pi_at sum scaled negative lower upper alternating size arctan_term power plus times opposite
 pi_at_16 = record { ends = (record { cross = record { le = tt } }, record { cross = record { le = tt } }) }
 
--- a number that counts 2^-58
+-- a number in units of 2^-58
 abbrev pub at_58 : ℤ → Fraction
 at_58 n = record { num = n; below = 2 ^ 58 - 1 }
 
@@ -270,7 +270,7 @@ corner_high s d S R l p k =
       ),
     )
 
--- what the code has of the degrees: their count d, and two ends around it
+-- what the code has of the degrees: their count d, and two endpoints around it
 pub record AreDegrees (s d : ℕ) (lo hi : ℤ) : Type 0 where
   pub degrees : d ≡ s * factor / 2 ^ 64
   pub low : (lo *ℤ pos 4 +ℤ pos 4) ≤ℤ pos d

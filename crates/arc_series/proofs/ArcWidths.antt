@@ -1,4 +1,4 @@
--- The bound of an arctangent, from the span over two ends.
+-- The bound of an arctangent, from the span over two endpoints.
 use Rattle.std.proofs.Common.{◌≡◌, ◌≤◌, ◌+◌, ◌*◌, ◌^◌, arith, ℕ, suc, ℤ, pos, negsuc, ◌+ℤ◌, ◌-ℤ◌, ◌*ℤ◌, ◌≤ℤ◌}
 use Rattle.std.specs.Int.{int_min, int_max}
 use Rattle.std.proofs.lemmas.Int.{ints, clamps}
@@ -16,7 +16,7 @@ use Rattle.book_model.specs.numbers.Relations.{Narrow, Keeps}
 use Rattle.encl_core.specs.declared.span.Span.{Span}
 use Rattle.arc_series.specs.Widths.{IsFrom, IsUpTo, IsOver}
 
--- ---- the ends of an enclosure
+-- ---- the endpoints of an enclosure
 -- they keep its bound, since they lie within it and hold it
 pub span_keeps : (w : ℕ) (b : Bound) (i : Interval) (lo hi : ℤ) → lo ≤ℤ hi → i ⊆ between (units_of_56 lo) (units_of_56 hi)
     → between (units_of_56 lo) (units_of_56 hi) ⊆ i
@@ -31,7 +31,7 @@ span_keeps w (bounded a b s t) (between c d) lo hi o g h k = record {
   close = le_trans _ _ _ h.ends.1 (le_trans _ _ _ k.close (plus_mono _ _ _ _ h.ends.0 (le_refl _)));
 }
 
--- ends that keep a bound, in whole numbers
+-- endpoints that keep a bound, in whole numbers
 pub record AreKept (a b : ℤ) (s k w : ℕ) (from to : ℤ) : Type 0 where
   pub low : (a *ℤ pos (2 ^ 24)) ≤ℤ from
   pub high : to ≤ℤ (b *ℤ pos (2 ^ 24))

@@ -102,7 +102,7 @@ tight_kept low high v everything h = absurd h.kept
 tight_kept low high v (between x y) h = record { kept = record { ordered = h.kept.ordered; above = floor_under x; below = ceil_over y; close = h.kept.close } }
 
 -- ---- the rate times the width
--- numbers that count 2^-32: the sizes of a box, x from p to n and y from g to h, and the least size q of the quotient
+-- numbers in units of 2^-32: the sizes of a box, x from p to n and y from g to h, and the least size q of the quotient
 record IsBox (n p g h v q : ℕ) : Type 0 where
   x_most : n ≤ 2 ^ 33
   x_near : n * 2 ^ 32 ≤ p * 2 ^ 32 + v + 2 * 2 ^ 32

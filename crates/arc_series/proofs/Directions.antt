@@ -42,7 +42,7 @@ width_reach : implies (bound_of (limits_at 56) arcs (subtract (integer (pos 90))
 unfolding implies bound_of integer_bound difference_bound
 width_reach = refl
 
--- the ends themselves
+-- the endpoints themselves
 abbrev corners : (a b c d : ℤ) (v : ℕ) → ℕ → Bound
 corners a b c d v k = if k == 0 then bounded c d 0 v else bounded a b 0 v
 
@@ -83,7 +83,7 @@ module _ {E : Type 0} (shown : E → Interval) (n v : ℕ) (y x : E) (e : n ≡ 
         (measured shown n w arcs (subtract (integer (pos 90)) (argument 0)) _ _ (2 ^ 40) 0 w d e width_reach (omega arith)
         (i u _ _ (h u) (measured_argument shown (limits_of n) _ _ w 0 t a))))
 
--- ends that lie in what is measured from 1/16 on are positive
+-- endpoints that lie in what is measured from 1/16 on are positive
 pub start_positive : (high : ℤ) (v : ℕ) (i : Interval) (lo hi : ℤ) → IsWithin (pos (2 ^ 28)) high v i → between (units_of_56 lo) (units_of_56 hi) ⊆ i → pos 1
     ≤ℤ lo
 unfolding IsNarrow

@@ -1,4 +1,4 @@
--- From spans at single numbers to those of what two ends have in common with the pieces.
+-- From spans at single numbers to those of what two endpoints have in common with the pieces.
 use Rattle.std.proofs.Common.{◌≡◌, ℕ, ◌≤◌, ◌-◌, ◌^◌, refl, arith, Bool, true, false, cond, ℤ, pos, negsuc, ◌+ℤ◌, ◌≤ℤ◌, ◌<ℤ◌, ◌⊎◌, inl, inr, Option, Some}
 use Rattle.std.proofs.Common.{None, List, [], ◌∷◌, ◌++◌, map}
 use Rattle.std.specs.Prelude.{IfSome}
@@ -34,7 +34,7 @@ pub hull_second : (a b c d lo hi : ℤ) → lo ≡ int_min a c → hi ≡ int_ma
 hull_second a b c d lo hi e f i h =
     within_trans h (record { ends = (record { cross = omega (arith, ints, clamps, e) }, record { cross = omega (arith, ints, clamps, f) }) })
 
--- ---- the ends of parts
+-- ---- the endpoints of parts
 split : (j k : ℤ) → (j ≤ℤ k) ⊎ ((k +ℤ pos 1) ≤ℤ j)
 split j k = grind (arith, ints)
 

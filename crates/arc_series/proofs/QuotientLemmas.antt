@@ -81,7 +81,7 @@ pub number_from : (q n d : ℕ) (x : Fraction) → 1 ≤ d → IsQuotient q n d 
 number_from q n zero x l k h e = absurd (omega (arith, l))
 number_from q n (suc m) x l k h e = number_by q n m x k h e
 
--- ---- a number that counts 2^-56
+-- ---- a number in units of 2^-56
 pub near_number : (k : ℕ) (x : Fraction) → pos k ≤ℤ pos (2 ^ 55) → x ≈ units_of_56 (pos k) → IsNumber (k * 256) x
 near_number k x h e = record {
   not_above = le_trans _ (units_of_56 (pos k)) x (record { cross = omega (arith, ints) }) (ge_of_same e);

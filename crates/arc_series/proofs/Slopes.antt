@@ -1,4 +1,4 @@
--- The sum of the arctangent's series and its ends rise by no more than the number does, from 0 to 1/2.
+-- The sum of the arctangent's series and its endpoints rise by no more than the number does, from 0 to 1/2.
 use Rattle.std.proofs.Common.{ℕ, suc, refl, pos, negsuc, [], ◌∷◌}
 use Rattle.book_model.specs.Fraction.{Fraction, ◌≤F◌, ◌≈◌, plus, power, size}
 use Rattle.book_model.specs.Sums.{alternating, lower, upper}
@@ -13,7 +13,7 @@ first_term : (x : Fraction) → arctan_term x 0 ≈ x
 unfolding arctan_term power
 first_term x = same_by (x ∷ []) ((at 0 ⊗ lit (pos 1)) ⊗ lit (pos 1)) (at 0) refl
 
--- the lower end at y is at most that at x, and y - x: what the first term lacks rises
+-- the lower endpoint at y is at most that at x, and y - x: what the first term lacks rises
 pub lower_slow : (n : ℕ) (x y : Fraction) → IsUpTo 1 2 x → IsUpTo 1 2 y → x ≤F y
     → plus (lower (arctan_term y) (suc n)) x ≤F plus (lower (arctan_term x) (suc n)) y
 lower_slow n x y w v h =
@@ -25,7 +25,7 @@ lower_slow n x y w v h =
     (known 4 ⊞ multiple 0 (lit (negsuc 0)) ⊞ multiple 1 (lit (pos 1)) ⊞ multiple 2 (lit (negsuc 0)) ⊞ multiple 3 (lit (pos 1))) refl
     (first_term x, (first_term y, (beneath_step p n, (beneath_step q n, (atop_rises n _ _ (tails p q (arctan_rising x y w v h)), tt))))))
 
--- and so is the upper end
+-- and so is the upper endpoint
 pub upper_slow : (n : ℕ) (x y : Fraction) → IsUpTo 1 2 x → IsUpTo 1 2 y → x ≤F y
     → plus (upper (arctan_term y) (suc n)) x ≤F plus (upper (arctan_term x) (suc n)) y
 upper_slow n x y w v h =
@@ -37,7 +37,7 @@ upper_slow n x y w v h =
     (known 4 ⊞ multiple 0 (lit (negsuc 0)) ⊞ multiple 1 (lit (pos 1)) ⊞ multiple 2 (lit (negsuc 0)) ⊞ multiple 3 (lit (pos 1))) refl
     (first_term x, (first_term y, (atop_step p n, (atop_step q n, (beneath_rises n _ _ (tails p q (arctan_rising x y w v h)), tt))))))
 
--- the sum, which lies in the middle of its ends
+-- the sum, which lies in the middle of its endpoints
 pub sum_slow : (n : ℕ) (x y : Fraction) → IsUpTo 1 2 x → IsUpTo 1 2 y → x ≤F y
     → plus (alternating (arctan_term y) (suc n)) x ≤F plus (alternating (arctan_term x) (suc n)) y
 unfolding lower upper

@@ -17,7 +17,7 @@ piece_of Near = near
 piece_of Above = above
 piece_of FarAbove = far_above
 
--- what lies between the ends of a span
+-- what lies between the endpoints of a span
 abbrev pub of_span : Span → Interval
 of_span s = between (units_of_56 s.lo) (units_of_56 s.hi)
 
@@ -27,7 +27,7 @@ AreHeld shown [] y = Unit {0}
 AreHeld shown (i ∷ is) None = ⊥
 AreHeld shown (i ∷ is) (Some e) = (i ⊆ shown e) × AreHeld shown is (Some e)
 
--- the ends of a piece at scale 2^-56; where it doesn't begin or end, the least and the greatest number of 128 bits
+-- the endpoints of a piece at scale 2^-56; where it doesn't begin or end, the least and the greatest number of 128 bits
 abbrev pub begin_56 : Piece → ℤ
 begin_56 FarBelow = negsuc (2 ^ 127 - 1)
 begin_56 Below = neg_ℤ (pos (3 * 2 ^ 56))

@@ -27,7 +27,7 @@ unfoldable pub nested : Fraction → ℕ → ℕ → Fraction
 nested u d zero = one_over d
 nested u d (suc m) = plus (one_over d) (opposite (times u (nested u (suc (suc d)) m)))
 
--- two ends, which count 2^-56, that lie within -128 and 128
+-- two endpoints, in units of 2^-56, that lie within -128 and 128
 pub record IsArc (lo hi : ℤ) : Type 0 where
   pub above : neg_ℤ (pos (2 ^ 63)) ≤ℤ lo
   pub below : hi ≤ℤ pos (2 ^ 63)

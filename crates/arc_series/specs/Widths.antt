@@ -1,4 +1,4 @@
--- How wide the spans of arctangents are, and where they lie. All numbers and degrees count 2^-56.
+-- How wide the spans of arctangents are, and where they lie. All numbers and degrees are in units of 2^-56.
 use Rattle.std.specs.Prelude.{◌*◌, ◌+◌, ◌-◌, ◌≤◌, ◌^◌, ℕ, ℤ, pos, neg_ℤ, ◌+ℤ◌, ◌-ℤ◌, ◌*ℤ◌, ◌≤ℤ◌, ◌<ℤ◌, ◌⊎◌, Option, Some, None}
 use Rattle.std.specs.Int.{int_min, int_max}
 use Rattle.book_model.specs.numbers.Bounds.{ceil_div}
@@ -6,7 +6,7 @@ use Rattle.encl_core.specs.declared.span.Span.{Span}
 use Rattle.arc_series.specs.declared.pieces.Piece.{Piece}
 use Rattle.arc_series.specs.declared.pieces.Piece.TheVariants.{FarBelow, Below, Near, Above, FarAbove}
 
--- two ends that are at most 4 apart
+-- two endpoints that are at most 4 apart
 pub record IsThin (lo hi : ℤ) : Type 0 where
   pub thin : hi ≤ℤ (lo +ℤ pos 4)
 
@@ -27,7 +27,7 @@ edge_near_above = record { place = pos (2 ^ 55); arc = pos 1914213673314665423 }
 abbrev pub edge_above : Edge
 edge_above = record { place = pos (3 * 2 ^ 56); arc = pos 5156805405021422543 }
 
--- what no number of 128 bits comes to
+-- what no number of 128 bits reaches
 abbrev pub no_begin : Edge
 no_begin = record { place = neg_ℤ (pos (2 ^ 127 + 1)); arc = pos 0 }
 
@@ -66,7 +66,7 @@ pub record IsRate (s : ℕ) (k : ℤ) : Type 0 where
   pub below : k ≤ℤ pos 0
   pub enough : pos (9 * 2 ^ 170) ≤ℤ (pos s *ℤ ((pos (2 ^ 56) -ℤ k) *ℤ (pos (2 ^ 56) -ℤ k)))
 
--- s, in 2^-60, is such a rate for the numbers up to -p, where p counts 2^-32
+-- s, in 2^-60, is such a rate for the numbers up to -p, where p is in units of 2^-32
 pub record IsRateFrom (s p : ℕ) : Type 0 where
   pub enough : 9 * 2 ^ 122 ≤ s * ((2 ^ 32 + p) * (2 ^ 32 + p))
 
@@ -74,12 +74,12 @@ pub record IsRateFrom (s p : ℕ) : Type 0 where
 abbrev pub slow_width : (s w : ℕ) → ℕ
 slow_width s w = ceil_div (w * s * 573) (10 * 2 ^ 60 - 1) + 58 * 2 ^ 8
 
--- ends that hold the arctangent at an edge, but for 2
+-- endpoints that hold the arctangent at an edge, but for 2
 pub record IsAt (e : Edge) (r : Span) : Type 0 where
   pub low : r.lo ≤ℤ (e.arc +ℤ pos 2)
   pub high : e.arc ≤ℤ (r.hi +ℤ pos 2)
 
--- the span of the arctangents of what two ends have in common with the line between two edges: its width is at most 57.3 times
+-- the span of the arctangents of what two endpoints have in common with the line between two edges: its width is at most 57.3 times
 -- how far apart these are, and so many tenths more; and 57.3 times that at a rate of the numbers
 pub record IsReach (first last : Edge) (tenths : ℕ) (lo hi : ℤ) (r : Span) : Type 0 where
   pub from : first.place ≤ℤ hi
@@ -97,7 +97,7 @@ abbrev pub Reaches : (first last : Edge) (tenths : ℕ) (lo hi : ℤ) → Option
 Reaches first last tenths lo hi None = (hi <ℤ first.place) ⊎ (last.place <ℤ lo)
 Reaches first last tenths lo hi (Some r) = IsReach first last tenths lo hi r
 
--- the span of the arctangents over two ends
+-- the span of the arctangents over two endpoints
 pub record IsOver (lo hi : ℤ) (r : Span) : Type 0 where
   pub narrow : ((r.hi -ℤ r.lo) *ℤ pos 10) ≤ℤ ((hi -ℤ lo) *ℤ pos 573 +ℤ pos 560)
   pub slow : (s : ℕ) → IsRate s hi → ((r.hi -ℤ r.lo) *ℤ pos (10 * 2 ^ 60)) ≤ℤ ((hi *ℤ pos s -ℤ lo *ℤ pos s) *ℤ pos 573 +ℤ pos (560 * 2 ^ 60))

@@ -20,7 +20,7 @@ use encl_core::{Enclosure, Span};
 /// The arctangent in degrees.
 ///
 /// It is taken over the closed pieces of the line that the enclosure meets, by the series of a number from -1/2 to 1/2 at
-/// both ends of each part. Source: Reingold and Dershowitz, Calendrical Calculations, chapter 14.
+/// both endpoints of each part. Source: Reingold and Dershowitz, Calendrical Calculations, chapter 14.
 pub fn arctan_deg<E: Enclosure>(x: E) -> E
     ensures encloses { Encloses1 E.shown E.BITS arctangent x result }
     ensures slow { (low : ℤ) (p s w : ℕ) → E.BITS ≡ 56 → IsRateFrom s p
@@ -77,15 +77,15 @@ fn half_turn_both_ways<E: Enclosure>() -> E
     })
 }
 
-/// An end, moved into -180..180 degrees.
+/// An endpoint, moved into -180..180 degrees.
 fn end_around(end: i128) -> i128
     ensures value { result ≡ int_max (int_min end HALF_TURN) (neg_ℤ HALF_TURN) }
 {
     end.min(HALF_TURN).max(-HALF_TURN)
 }
 
-// By its ends; at a scale of which nothing is promised nothing is said of its size.
-/// What an enclosure has of -180..180 degrees, by ends that are moved there; all of it, where nothing is known.
+// By its endpoints; at a scale of which nothing is promised nothing is said of its size.
+/// What an enclosure has of -180..180 degrees, by endpoints that are moved there; all of it, where nothing is known.
 fn kept_around<E: Enclosure>(x: E) -> E
     ensures holds { (i : Interval) → i ⊆ E.shown x → i ⊆ all_around → i ⊆ E.shown result }
     ensures all { everything ⊆ E.shown x → all_around ⊆ E.shown result }

@@ -1,11 +1,11 @@
 //! The arctangent of a number from 0 to 1/2, in 64 bits.
 //!
-//! All numbers count 2⁻⁶⁴. The coefficients are 1 over an odd number, rounded down, and Horner's form takes them from the
+//! All numbers are in units of 2⁻⁶⁴. The coefficients are 1 over an odd number, rounded down, and Horner's form takes them from the
 //! inside out. A step makes an error of at most 4 into one of at most 4, since the square of a number is at most 1/4.
 //!
 //! 29 terms leave out less than two parts of 2⁻⁶⁴, so that an arctangent is four parts of 2⁻⁵⁶ wide; 26 would leave out
-//! 39, which are nine of 2⁻⁵⁶, and three products more are cheap. The steps are written out and inlined: no loop, no
-//! table, no bounds.
+//! 39, which are nine of 2⁻⁵⁶, and three products more are cheap. The steps are written out and inlined: no loop, no table, no
+//! bounds checks.
 ghost use Rattle.std.specs.Prelude.{◌≤◌, ◌*◌, ◌^◌, ℕ, pos, neg_ℤ, ◌*ℤ◌, ◌+ℤ◌, ◌≤ℤ◌};
 ghost use Rattle.book_model.specs.Fraction.{Fraction, plus, opposite, times};
 ghost use Rattle.book_model.specs.Interval.{between, ◌⊆◌};
@@ -19,11 +19,11 @@ ghost use Rattle.arc_series.specs.Widths.{IsThin};
 
 use encl_core::{Span, high_half};
 
-/// The degrees of a radian, which count 2⁻⁵⁸, rounded down.
+/// The degrees of a radian, in units of 2⁻⁵⁸, rounded down.
 const DEGREES: u64 = 16_514_384_080_961_256_899;
 
 // Not the sine's step, whose clause speaks of angles that are known to 68 parts and of squares that
-// are to 112: those would move an end by some fifty parts of 2⁻⁵⁶.
+// are to 112: those would move an endpoint by some fifty parts of 2⁻⁵⁶.
 /// One step of Horner's form: 1 over an odd number less a square times what stands further in.
 #[inline(always)]
 fn step(coefficient: u64, square: u64, inner: u64) -> u64

@@ -1,4 +1,4 @@
-//! Arctangents over the closed pieces of the line. All numbers and degrees count 2⁻⁵⁶.
+//! Arctangents over the closed pieces of the line. All numbers and degrees are in units of 2⁻⁵⁶.
 ghost use Rattle.std.specs.Prelude.{◌≡◌, ℕ, ◌≤◌, ◌+◌, pos, neg_ℤ, ◌≤ℤ◌, ℤ, List, [], ◌∷◌, ◌++◌, IfSome};
 ghost use Rattle.book_model.specs.Fraction.{Fraction, ◌≈◌, opposite as opposite_of};
 ghost use Rattle.book_model.specs.Interval.{Interval, between, ◌⊆◌};
@@ -139,7 +139,7 @@ fn end_of(piece: Piece) -> i128
     }
 }
 
-/// The arctangents at both ends of what two ends have in common with a piece, if there is such a part.
+/// The arctangents at both endpoints of what two endpoints have in common with a piece, if there is such a part.
 fn arc_over(piece: Piece, lo: i128, hi: i128) -> Option<Span>
     requires ordered { lo ≤ℤ hi }
     ensures holds { (n : ℕ) → DEPTH ≤ n → AreHeld of_span
@@ -177,7 +177,7 @@ fn hull_of_spans(x: Option<Span>, y: Option<Span>) -> Option<Span>
     }
 }
 
-/// The arctangent over two ends: the hull over the pieces that they meet. They meet one.
+/// The arctangent over two endpoints: the hull over the pieces that they meet. They meet one.
 pub(crate) fn arctan_over(span: Span) -> Option<Span>
     ensures holds { IfSome result (λ arc. (n : ℕ) → DEPTH ≤ n → arctangent_of n
         (between (units_of_56 span.lo) (units_of_56 span.hi)) ⊆ of_span arc) }

@@ -54,7 +54,7 @@ pub(crate) fn less(number: i128, span: Span) -> Span
     }
 }
 
-/// From the lesser lower to the greater upper end.
+/// From the lesser lower to the greater upper endpoint.
 #[inline(always)]
 pub(crate) fn hull(first: Span, second: Span) -> Span
     ensures low { result.lo ≡ int_min first.lo second.lo }

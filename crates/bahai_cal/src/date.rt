@@ -101,9 +101,9 @@ fn date_from_facts(day: i64, first: i64, base: i64, next: i64) -> BahaiDate
 
 /// The date of a day (R.D.): the year that begins nearest to the first day which the oracle has for the day. The last month is
 /// counted back from the first day of the next year, the others from that of the year, and what lies between them is
-/// Ayyám-i-Há. A month or a day that its type doesn't hold stands at the nearest end; the other fields always fit. It stops
-/// where the oracle stops, at one of the three facts that are asked (Reingold and Dershowitz, Calendrical Calculations, chapter
-/// 16).
+/// Ayyám-i-Há. A month or a day that its type doesn't hold is clamped to the nearest bound; the other fields always fit. It
+/// returns early where the oracle does, at one of the three facts that are asked (Reingold and Dershowitz, Calendrical
+/// Calculations, chapter 16).
 ///
 /// ```
 /// let evaluator = Staged::new();
@@ -156,7 +156,7 @@ fn day_by(first: i64, days: i64, day: i64) -> i64
     first + days + day - 1
 }
 
-/// The day (R.D.) of a day of a month, by where the month is counted from. It stops where the oracle stops.
+/// The day (R.D.) of a day of a month, by where the month is counted from. It returns early where the oracle does.
 fn day_counted_from<O: Oracle>(oracle: &mut O, start: MonthStart, day: i64) -> Result<i64, Stop>
     requires near { IsMonthStart start }
     requires from_first_day { pos 1 ≤ℤ day }
@@ -168,8 +168,8 @@ fn day_counted_from<O: Oracle>(oracle: &mut O, start: MonthStart, day: i64) -> R
 }
 
 /// The day (R.D.) of a date: that of its month and day, counted from the first day of its year, or, in the last month, back from
-/// that of the next year. The date needn't be one that the calendar has. It stops where the oracle stops, at the one fact that is
-/// asked (Reingold and Dershowitz, Calendrical Calculations, chapter 16).
+/// that of the next year. The date needn't be one that the calendar has. It returns early where the oracle does, at the one fact
+/// that is asked (Reingold and Dershowitz, Calendrical Calculations, chapter 16).
 ///
 /// ```
 /// let evaluator = Staged::new();

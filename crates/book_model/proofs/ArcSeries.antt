@@ -40,7 +40,7 @@ positive_near x w e = within_half x (at_most_true zero_F x e) w.below
 pub negative_near : (x : Fraction) → InHalf x → is_at_most zero_F x ≡ false → IsUpTo 1 2 (opposite x)
 negative_near x w e = within_half (opposite x) (opposite_nonneg x (at_most_false zero_F x e)) (opposite_half x w.above)
 
--- ---- the ends of sums that halve are not negative
+-- ---- the endpoints of sums that halve are not negative
 lower_nonneg : (n : ℕ) (t : ℕ → Fraction) → Halving t → zero_F ≤F lower t n
 unfolding beneath alternating
 lower_nonneg zero t h = rw (lower_is_beneath t 0 (h.nonneg 1))

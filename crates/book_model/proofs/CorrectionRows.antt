@@ -1,4 +1,4 @@
--- The table of corrections: what its rows have in common.
+-- The table of values of ΔT: what its rows have in common.
 use Rattle.std.specs.Prelude.{◌≡◌, ℤ, ◌≤ℤ◌, Bool, true, false, ◌&&◌, if◌then◌else◌, int_le, List, [], ◌∷◌, Some, refl}
 use Rattle.std.specs.List.{list_all}
 use Rattle.std.proofs.Common.{arith, sym, subst}

@@ -1,4 +1,4 @@
--- The polynomial of a correction, term by term, and the sizes of its powers.
+-- The polynomial of ΔT, term by term, and the sizes of its powers.
 use Rattle.std.specs.Prelude.{◌≡◌, ℕ, zero, suc, ◌+◌, ◌*◌, ◌^◌, ◌≤◌, ℤ, pos, negsuc, ◌*ℤ◌, ◌≤ℤ◌, unsigned_abs, List, length, slice_index_or, refl}
 use Rattle.std.proofs.Common.{arith, add-one}
 use Rattle.std.proofs.lemmas.Int.{ints, unsigned_abs-mul}

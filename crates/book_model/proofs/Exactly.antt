@@ -71,7 +71,7 @@ decimals_more a b e f h k = same_trans (decimals_add a b) (plus_cong h k)
 pub decimal_zero : decimal_11 (pos 0) ≈ whole (pos 0)
 decimal_zero = record { cross = refl }
 
--- a number of 10^-11 seconds is the correction in days
+-- a number of 10^-11 seconds is ΔT in days
 pub seconds_exactly : (w : World) (cs : List Frac) (origin y n : ℤ) → decimal_11 n ≈ exact_to cs (y -ℤ origin) (length cs)
     → IsNumber (seconds_11 n) (value w (seconds_of cs origin y))
 unfolding value seconds_of polynomial_of times

@@ -32,7 +32,7 @@ pub correction_few : (y : ℤ) → AtMost 0 (correction_of_year y)
 unfolding correction_of_year
 correction_few y = row_few y (row_of_year y)
 
--- the correction of a moment makes one test
+-- ΔT of a moment makes one test
 pub correction_at_few : (x : Expression) → AtMost 1 (correction_at x)
 unfolding correction_at year_of
 correction_at_few x = at_most_bind 1 0 (cell_at_most (λ q. answer_at_most)) (λ y. correction_few y)
@@ -130,7 +130,7 @@ remainder_in_turn (between a b) q e =
     let high = rw same at ((cells_cut (multiples 360)).not_over b) in
     record { ends = (turn_below a q low, turn_above b q high) }
 
--- the same, with the turn's ends
+-- the same, with the turn's endpoints
 pub remainder_within : (i : Interval) (q : ℤ) → cell_at (multiples 360) i ≡ Some q
     → difference i (exactly (whole (pos 360 *ℤ q))) ⊆ between (whole (pos 0)) (whole (pos 360))
 unfolding turn
@@ -143,7 +143,7 @@ sun_in_turn w x e h =
     let d = decides w _ (multiples 360) (longitude_of p.part) (λ q. remainder 360 (longitude_of p.part) q) e p.then in
     rw (← d.leads_to) (remainder_in_turn _ d.cell_there d.decided_so)
 
--- the same, with the turn's ends
+-- the same, with the turn's endpoints
 pub sun_within : (w : World) (x e : Expression) → outcome (run w (sun_of x)) ≡ valued e → value w e ⊆ between (whole (pos 0)) (whole (pos 360))
 unfolding turn
 sun_within w x e h = sun_in_turn w x e h

@@ -90,7 +90,7 @@ unfolding after_cell
 cell_stop R g i None n a u e d c = stops e d c
 cell_stop R g i (Some q) n a u e d c = stops_early e d c
 
--- a cell test that the code leaves open
+-- a cell test that the code leaves undecided
 pub leads_open_cell : {A T : Type 0} {w : World} {R : A → T → Type 0} (g : Grid) (x : Expression) (j : Interval) (next : ℤ → Program A) {b : ℕ} (a : ℕ)
     (u : Undecided) →
     value w x ⊆ j → u.turn ≡ next_turn b → a ≡ next_turn b → IsOpenCell g j u.lo u.hi → Leads w R (cell u.site g x next) b a (Err (undecided_at u))
@@ -114,7 +114,7 @@ unfolding after_compare
 compare_stop R i j None n a u e d c = stops e d c
 compare_stop R i j (Some t) n a u e d c = stops_early e d c
 
--- a comparison that the code leaves open
+-- a comparison that the code leaves undecided
 pub leads_open_compare : {A T : Type 0} {w : World} {R : A → T → Type 0} (x y : Expression) (j k : Interval) (next : Bool → Program A) {b : ℕ} (a : ℕ)
     (u : Undecided) →
     value w x ⊆ j → value w y ⊆ k → u.turn ≡ next_turn b → a ≡ next_turn b → IsOpenComparison j k u.lo u.hi
@@ -218,7 +218,7 @@ pub leads_void_at : {A T : Type 0} {w : World} {R : A → T → Type 0} {p : Pro
     ≡ void_at s
 leads_void_at h = reports_void h.reports
 
--- the run makes the test of an undecided result, counted from turn b, and it is open at these ends
+-- the run makes the test of an undecided result, counted from turn b, and it is undecided at these endpoints
 pub record StopsAt {A : Type 0} (r : Run A) (b : ℕ) (u : Undecided) : Type 0 where
   pub number : ℕ
   pub sides : Sides

@@ -1,4 +1,4 @@
--- the lemmas of exact_math, given on
+-- the lemmas of exact_math, re-exported
 pub use Rattle.exact_math.proofs.IntLaws
 pub use Rattle.exact_math.proofs.Ring
 pub use Rattle.exact_math.proofs.Bounds

@@ -1,4 +1,4 @@
--- What moving the facts of an inquiry comes to, over every table of the values of facts.
+-- The result of moving the facts of an inquiry, over every table of the values of facts.
 use Rattle.std.specs.Prelude.{◌≡◌, ◌∷◌, ℤ, map, refl}
 use Rattle.std.proofs.Common.{ap}
 use Rattle.book_model.specs.declared.fact.Fact.{Fact}

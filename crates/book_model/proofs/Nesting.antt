@@ -34,7 +34,7 @@ when_some : {A : Type 0} (b : Bool) (a q : A) → when b a ≡ Some q → (b ≡
 when_some true a q e = (refl, cc)
 when_some false a q e = cc
 
--- an interval within two ends of one cell lies in that cell
+-- an interval within two endpoints of one cell lies in that cell
 pub cell_between : (g : Grid) (m v l u : Fraction) (q : ℤ) → m ≤F l → l ≤F u → u ≤F v → cell_of g m ≡ q → cell_of g v ≡ q → cell_at g (between l u) ≡ Some q
 unfolding cell_at
 cell_between g m v l u q p k r e f =
@@ -67,7 +67,7 @@ true_or_false : (t : Bool) → (t ≡ false → t ≡ true) → t ≡ true
 true_or_false true h = refl
 true_or_false false h = h refl
 
--- what a decided comparison says of the ends
+-- what a decided comparison says of the endpoints
 pub data IsDecided (a b c d : Fraction) : Bool → Type 0 where
   all_below : (is_at_most c b ≡ false) → IsDecided a b c d true
   none_below : (is_at_most c b ≡ true) → d ≤F a → IsDecided a b c d false

@@ -1,5 +1,5 @@
--- The runs over some years alone, where they aren't void at the year, are the runs: an open test is the same on both sides, a decided
--- one goes on, and a year that isn't known is the void that the premise excludes.
+-- The runs over some years alone, where they aren't void at the year, are the runs: an undecided test is the same on both sides, a
+-- decided one goes on, and a year that isn't known is the void that the premise excludes.
 use Rattle.std.specs.Prelude.{◌≡◌, ℕ, ℤ, Bool, true, false, not, ◌&&◌, if◌then◌else◌, Option, Some, None, refl}
 use Rattle.std.proofs.Common.{ap, ◌∙◌}
 use Rattle.book_model.specs.declared.fact.Fact.{Fact}
@@ -115,7 +115,7 @@ composed_numbers known = all_composed known ℤ
 pub composed_expressions : (known : ℤ → Bool) → AreComposed known Expression
 composed_expressions known = all_composed known Expression
 
--- ---- the correction by a version's rows
+-- ---- ΔT by a version's rows
 over_row : (known : ℤ → Bool) (y : ℤ) (o : Option Correction) → over_years known (by_row y o) ≡ by_row y o
 unfolding over_years
 over_row known y None = refl
@@ -136,7 +136,7 @@ pub older_correction : (version : Version) (x : Expression)
 unfolding over_years correction_at year_of bind
 older_correction version x = cell_same Year years x _ _ (λ y. older_at version y)
 
--- what follows from a correction, over these years, is what follows from that by the version's rows
+-- what follows from ΔT, over these years, is what follows from that by the version's rows
 older_then : {A : Type 0} (known : ℤ → Bool) (o : Bool) (p q : Program Expression) (f : Expression → Program A)
     → ((c : Expression) → over_years known (f c) ≡ f c) → (if not o then void Year else over_years known p) ≡ q → (if not o then void Year else over_years known (bind p f)) ≡ bind q f
 unfolding bind

@@ -1,4 +1,4 @@
--- The rows of the table of corrections lie apart, so the rows that a version had give a year that they have the row that all give.
+-- The rows of the table of ΔT lie apart, so the rows that a version had give a year that they have the row that all give.
 use Rattle.std.specs.Prelude.{◌≡◌, ℤ, negsuc, ◌≤ℤ◌, ◌<ℤ◌, Bool, true, false, ◌&&◌, ◌||◌, cond, if◌then◌else◌, int_le, int_lt, List, [], ◌∷◌, Some, None, refl}
 use Rattle.std.specs.List.{filter}
 use Rattle.std.proofs.Common.{arith}

@@ -38,7 +38,7 @@ within_fifths : (x : Fraction) → zero_F ≤F x → x ≤F four_fifths → IsUp
 unfolding times
 within_fifths x h k = record { nonneg = h; bound = record { cross = omega (arith, ints, k.cross) } }
 
--- a function that has its lower end at f n and its upper end at g n of the ends
+-- a function that has its lower endpoint at f n and its upper endpoint at g n of the endpoints
 pub record Points (a b c d : Fraction) : Type 0 where
   pub c_nonneg : IsUpTo 4 5 c
   pub a_in : IsUpTo 4 5 a
@@ -176,7 +176,7 @@ pub cosines : Narrowing (λ n. cosine_series (suc n))
 cosines = record { proper = cosine_proper; within = cosine_within; deeper = cosine_deeper }
 
 -- ---- between two intervals
--- each end of the first is at or below that of the second
+-- each endpoint of the first is at or below that of the second
 pub data Precedes : Interval → Interval → Type 0 where
   preceding : {a b c d : Fraction} → a ≤F c → b ≤F d → Precedes (between a b) (between c d)
 

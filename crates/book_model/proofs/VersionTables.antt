@@ -66,7 +66,7 @@ unfolding is_answered
 answered_day version reach f h = (both (has_year version (row_of Gregorian) f) (has_day_in_reach reach Gregorian f) h).1
 
 -- ---- the version that is written
--- a range has the ends of another
+-- a range has the endpoints of another
 abbrev pub is_wider : (outer inner : ℤ × ℤ) → Bool
 is_wider outer inner = int_le outer.0 inner.0 && int_le inner.1 outer.1
 

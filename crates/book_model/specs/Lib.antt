@@ -1,4 +1,4 @@
--- the fractions, intervals and quotients of exact_math, given on
+-- the fractions, intervals and quotients of exact_math, re-exported
 pub use Rattle.exact_math.specs.Fraction
 pub use Rattle.exact_math.specs.Quotients
 pub use Rattle.exact_math.specs.Interval

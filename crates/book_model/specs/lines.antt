@@ -1,4 +1,4 @@
--- Lines: what they ask, what they come to, and their text.
+-- Lines: what they ask, their outcomes, and their text.
 pub mod Lines
 pub mod Words
 pub mod Reach

@@ -86,7 +86,7 @@ impl Calendar {
     ghost use Rattle.book_model.specs.calendars.Dates.{row_of};
 
     // By the places of the table, each a constant: where a place is computed, the whole table is written to the stack at each
-    // call, 350 instructions, and a line wants some four rows.
+    // call, 350 instructions, and a line needs some four rows.
     /// What the calendar differs in.
     pub fn row(self) -> CalendarRow
         ensures row { result ≡ row_of self }

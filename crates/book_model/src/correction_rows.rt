@@ -11,7 +11,7 @@ use crate::time_tables::{
 };
 use crate::version::Version;
 
-/// What the polynomial of a row is taken of, and what it counts.
+/// What the polynomial of a row is a function of, and the unit of its value.
 #[derive(Clone, Copy)]
 pub enum CorrectionForm {
     /// Seconds, by the whole years from a year on.
@@ -23,8 +23,8 @@ pub enum CorrectionForm {
     DaysByCenturies,
 }
 
-/// The first and the last year of a row, its form, its coefficients from the constant one on, where it is promised, how many
-/// units of the scale an enclosure of its corrections is wide at most, and the first version of printed files that has the row.
+/// The first and the last year of a row, its form, its coefficients from the constant one on; where that is promised, how
+/// many units of the scale an enclosure of its ΔT is wide at most; and the first version of certificates that has the row.
 pub type CorrectionRow = (
     i64,
     i64,
@@ -37,7 +37,7 @@ pub type CorrectionRow = (
 // What each row has to keep, its powers, widths and values, is computed over the table. So a row
 // more needs no proof; where powers are taken in whole years they fit while these lie within 256 of
 // the form's and there are seven coefficients at most.
-/// The rows, in order. A year in none of them has no correction.
+/// The rows, in order. A year in none of them has no ΔT.
 #[rattlefmt::skip]
 pub static CORRECTIONS: [CorrectionRow; 7] = [
     (-499, 499, CorrectionForm::SecondsByHundreds, &CORRECTION_ANCIENT, None, Version::One),

@@ -65,7 +65,7 @@ pub struct Fact {
 
 // A column of the table of kinds, so that no proof goes over kinds.
 /// Which tests of the formula of a kind of fact, where they are of a year, are of that of the whole day itself, and so are never
-/// open.
+/// undecided.
 #[derive(Clone, Copy)]
 pub enum WholeDays {
     /// None.
@@ -73,17 +73,17 @@ pub enum WholeDays {
     /// The first and the third.
     AtFirst,
     /// Each.
-    // Of moonrise and moonset: each moment lies in one day. Required is it of those alone that are
-    // the day itself.
+    // Of moonrise and moonset: each moment lies in one day. It is required only of those that are the day
+    // itself.
     Everywhere,
 }
 
 // Kinds, places and sites are rows, each at the place of its variant, and read by the definitions
-// too. That a name leads back, and is a word of printed files, is computed over the table.
+// too. That a name leads back, and is a word of certificates, is computed over the table.
 // A static, since a constant that is borrowed is written to the stack at each use. A tuple, since
 // the definitions can't read a static's struct that holds a reference.
 /// Each kind of fact with its printed name, the places that it is asked of, which of its tests of a year are of a whole day, and
-/// the first version of printed files that has it, in the order of the variants.
+/// the first version of certificates that has it, in the order of the variants.
 #[rattlefmt::skip]
 pub static KINDS: [(Kind, &str, (&[Place], WholeDays, Version)); 28] = [
     (Kind::Dt, "dt", (&[Place::None], WholeDays::AtFirst, Version::One)),
@@ -116,10 +116,10 @@ pub static KINDS: [(Kind, &str, (&[Place], WholeDays, Version)); 28] = [
     (Kind::Nisan, "nisan", (&[Place::Haifa], WholeDays::AtFirst, Version::Two)),
 ];
 
-// A place without a location has none of the facts that need one, which `Fact::new` refuses; their
-// formulas are void at `year` there, which is total and says no location that isn't the place's.
+// A place without a location has none of the facts that need one: `Fact::new` refuses them. Their formulas are void at `year`
+// there: so they are defined for every place, and no place gets a location that isn't its own.
 /// Each place with its printed name, the location from which its horizon is looked at, if it has one, its zone, and the first
-/// version of printed files that has it, in the order of the variants. A zone is the days on which the time of the place changes,
+/// version of certificates that has it, in the order of the variants. A zone is the days on which the time of the place changes,
 /// in order, each with the hours by which it is ahead of universal time before, and the hours from the last of these days on. Facts
 /// of no place go by universal time.
 #[rattlefmt::skip]
@@ -170,7 +170,7 @@ impl Kind {
         self as usize
     }
 
-    /// The word for the kind in a printed line.
+    /// The word for the kind in a certificate.
     pub fn name(self) -> &'static str
         ensures { result.now ≡ kind_name self }
     {
@@ -185,7 +185,7 @@ impl Kind {
         first_row_named(&KINDS, word)
     }
 
-    /// The first version of printed files that has the kind.
+    /// The first version of certificates that has the kind.
     pub fn since(self) -> Version
         ensures { result ≡ kind_since self }
     {
@@ -233,7 +233,7 @@ impl Place {
         self as usize
     }
 
-    /// The word for the place in a printed line, a dash for none.
+    /// The word for the place in a certificate, a dash for none.
     #[tactic(auto, unfolding(crate::specs::sky::Names::place_name))]
     pub fn name(self) -> &'static str
         ensures { result.now ≡ place_name self }
@@ -249,7 +249,7 @@ impl Place {
         first_row_named(&PLACES, word)
     }
 
-    /// The first version of printed files that has the place.
+    /// The first version of certificates that has the place.
     #[tactic(auto, unfolding(crate::specs::sky::Names::place_since))]
     pub fn since(self) -> Version
         ensures { result ≡ place_since self }

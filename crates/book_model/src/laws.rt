@@ -89,7 +89,7 @@ pub fn arcs()
     ensures two { IsNestedOfTwo arctangent_of_two }
 {}
 
-/// The ends of a root at depth n: of a number that is not negative, the greatest multiple of 2 to the power of minus
+/// The bounds of a root at depth n: of a number that is not negative, the greatest multiple of 2 to the power of minus
 /// twice n whose square is at most that, and the least whose square is at least that. A negative number counts as 0.
 pub fn roots()
     ensures low { (n : ℕ) (a : Fraction) → IsGreatestRoot n (not_negative a) (root_low n a) }
@@ -185,7 +185,7 @@ pub fn headers()
     ensures { (version : Version) → version_named (header_line version) ≡ Some version }
 {}
 
-/// The run of a fact as a version had it, over its rows of corrections and of its days of facts, is the run of the fact, where
+/// The run of a fact as a version had it, over its rows of ΔT and of its days of facts, is the run of the fact, where
 /// it isn't void at the year: what a version had a value of has that value still, by the same tests.
 #[tactic(auto, using(crate::proofs::Older::older_stays))]
 pub fn older_runs()
@@ -193,7 +193,7 @@ pub fn older_runs()
         → (outcome (run_by version n f) ≡ void_at Year → ⊥) → run_by version n f ≡ run_of n f }
 {}
 
-/// What a formula over some years alone is: made of the same parts, each over these years; and the correction of a moment, and
+/// What a formula over some years alone is: made of the same parts, each over these years; and ΔT of a moment, and
 /// that of a day's year, is by the rows that the version had. The version that is written has all rows and days.
 #[tactic(auto, using(crate::proofs::Older::older_correction, crate::proofs::Older::older_dt, crate::proofs::Older::written_days, crate::proofs::Older::written_rows))]
 pub fn older_formulas()

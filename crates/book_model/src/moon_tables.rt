@@ -56,7 +56,7 @@ pub const LATITUDE_ARGUMENT: Quartic = Quartic {
 /// The mean distance of the moon, in metres.
 pub const MEAN_DISTANCE: i64 = 385_000_560;
 
-/// What the eccentricity of the earth's orbit makes of a term of the sun's anomaly, as time goes on.
+/// The factor of a term of the sun's anomaly by the eccentricity of the earth's orbit, which changes with time.
 #[rattlefmt::skip]
 pub const ECCENTRICITY_FACTOR: Quadratic = Quadratic {
     constant: Frac { num: 1, den: 1 },
@@ -146,8 +146,8 @@ pub const MOON_TERMS: [MoonTerm; 60] = [
     MoonTerm { elongation: 2, sun_anomaly: 0, moon_anomaly: -1, latitude_argument: -2, longitude: 0, distance: 8752 },
 ];
 
-/// What Venus adds to the moon's latitude, in millionths of a degree: this times the sine of the angle of its wave in the
-/// longitude and the argument of latitude, and this times the sine of the angle less that.
+/// What Venus adds to the moon's latitude, in millionths of a degree: this times the sine of the angle of its periodic term in
+/// the longitude and the argument of latitude, and this times the sine of the angle less that.
 pub const VENUS_IN_LATITUDE: i64 = 175;
 
 /// What the flattening of the earth adds to the moon's latitude, in millionths of a degree: the first times the sine of the mean
@@ -158,7 +158,7 @@ pub const FLATTENING_LESS_ANOMALY: i64 = 127;
 
 pub const FLATTENING_WITH_ANOMALY: i64 = -115;
 
-/// A wave of the moon's latitude, in millionths of a degree.
+/// A periodic term of the moon's latitude, in millionths of a degree.
 #[rattlefmt::skip]
 pub const LATITUDE_WAVE: Wave = Wave { size: 382, phase: 3_134_500_000, rate: 4_812_664_840_000 };
 

@@ -12,8 +12,8 @@ pub struct MoonTerm {
     pub distance: i64,
 }
 
-// A table of its own; what a term of the longitude and one of the latitude come to is one function
-// of the multiples and the size.
+// A table of its own; the value of a term, of the longitude or of the latitude, is one function of the multiples and the
+// size.
 /// A term of the moon's latitude: the multiples of its elongation, of the sun's and of its own anomaly and of its argument of
 /// latitude, and the size in millionths of a degree.
 #[derive(Clone, Copy)]

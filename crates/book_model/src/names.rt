@@ -61,7 +61,7 @@ pub(crate) fn list_at<T, N, U, V, W>(
     rows[place].2.0
 }
 
-/// The first version of printed files that has what is in the row at a place.
+/// The first version of certificates that has what is in the row at a place.
 pub(crate) fn since_at<T, N, U, V>(rows: &[(T, N, (U, V, Version))], place: usize) -> Version
     requires within { place < length rows.now }
     ensures { result ≡ slice_index_or (map (λ row. row.2.2) rows.now) place One }

@@ -8,7 +8,7 @@ use crate::{Frac, NewMoonTerm, PlanetTerm, Quadratic, QuadraticWave};
 /// The number of the new moon of January 2000, counted from that of January of the year 1.
 pub const NEW_MOON_OF_2000: i64 = 24_724;
 
-/// The months from the first new moon, of number 0, to the end of the years of which there are corrections, and some 300 days more,
+/// The months from the first new moon, of number 0, to the end of the years of which ΔT is known, and some 300 days more,
 /// rounded up, and a number that no number of a moment of these years passes.
 pub const LAST_TABLE_MONTH: i64 = 26_602;
 

@@ -1,4 +1,4 @@
-//! A slow plain program beside a definition: the correction of a year in exact decimals, to compare with tables.
+//! A slow plain program beside a definition: ΔT of a year in exact decimals, to compare with tables.
 //!
 //! The other such program is `write_text` of printed_rows, whose contract is the text.
 ghost use Rattle.std.specs.Prelude.{◌≡◌, ◌≤◌, ◌<◌, ◌*◌, ◌-◌, ◌^◌, suc, ℤ, ℕ, pos, ◌-ℤ◌, ◌≤ℤ◌, length, IfSome};
@@ -10,7 +10,7 @@ ghost use Rattle.book_model.specs.sky.Time.{correction_of_year};
 
 use crate::{CorrectionForm, Frac, row_of_year};
 
-/// The scale of the decimals: 10¹¹, which every denominator of the corrections divides.
+/// The scale of the decimals: 10¹¹, which every denominator of ΔT divides.
 const SCALE: u64 = 100_000_000_000;
 
 /// How many units of 10⁻¹¹ one part of this denominator has, where they are whole.

@@ -1,4 +1,4 @@
-//! The shapes in which tables give polynomials and waves.
+//! The shapes in which tables give polynomials and periodic terms.
 use crate::Frac;
 
 /// The coefficients of a quadratic polynomial.
@@ -20,8 +20,8 @@ pub struct Cubic {
 
 // Whole numbers over one power of ten, so that a row's denominators are known to the compiler.
 // Coefficients stay fractions, since the moon's have denominators like 538,841.
-/// A wave in time: its size times the sine of its phase and its rate times the time. The phase is in ten-millionths of a
-/// degree, the rate in the same a century, and the size in a unit of its table.
+/// A periodic term in time: its size times the sine of its phase and its rate times the time. The phase is in
+/// ten-millionths of a degree, the rate in the same a century, and the size in a unit of its table.
 #[derive(Clone, Copy)]
 pub struct Wave {
     pub size: i64,
@@ -29,7 +29,7 @@ pub struct Wave {
     pub rate: i64,
 }
 
-/// A wave whose angle is quadratic in time: its size times the sine of the angle, in degrees.
+/// A periodic term whose angle is quadratic in time: its size times the sine of the angle, in degrees.
 #[derive(Clone, Copy)]
 pub struct QuadraticWave {
     pub size: Frac,

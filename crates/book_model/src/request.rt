@@ -61,8 +61,8 @@ impl Rule {
     }
 }
 
-/// What a line that breaks no rule by itself comes to: what it asks for, the day that its date names where that is
-/// outside the range, or the own date of that day where it isn't the date of the line.
+/// The outcome of a line that breaks no rule by itself: what it asks for, the day that its date names where that
+/// is outside the range, or the own date of that day where it isn't the date of the line.
 #[derive(Clone, Copy, Debug, PartialEq, Eq)]
 pub enum Resolved {
     Shown(ToWord, Fields),

@@ -32,7 +32,7 @@ pub enum Site {
 }
 
 // A row more, at its variant's place, is a site more: no proof goes over sites.
-/// Each site with its printed name, and the first version of printed files that has it, in the order of the variants.
+/// Each site with its printed name, and the first version of certificates that has it, in the order of the variants.
 #[rattlefmt::skip]
 pub static SITES: [(Site, &str, Version); 22] = [
     (Site::Year, "year", Version::One),
@@ -70,7 +70,7 @@ impl Site {
         self as u8 + 1
     }
 
-    /// The word for the site in a printed line.
+    /// The word for the site in a certificate.
     #[tactic(auto, unfolding(crate::specs::sky::Names::site_name))]
     pub fn name(self) -> &'static str
         ensures { result.now ≡ site_name self }
@@ -86,7 +86,7 @@ impl Site {
         first_row_named(&SITES, word)
     }
 
-    /// The first version of printed files that has the site.
+    /// The first version of certificates that has the site.
     #[tactic(auto, unfolding(crate::specs::sky::Names::site_since))]
     pub fn since(self) -> Version
         ensures { result ≡ site_since self }

@@ -163,7 +163,7 @@ pub const SUN_AT_2000: Frac = Frac { num: 2_827_771_834, den: 10_000_000 };
 #[rattlefmt::skip]
 pub const SUN_RATE: Frac = Frac { num: 3_600_076_953_744, den: 100_000_000 };
 
-/// The first of two factors whose product is the unit of the sun's waves, 0.000005729577951308232: its denominator
+/// The first of two factors whose product is the unit of the sun's periodic terms, 0.000005729577951308232: its denominator
 /// doesn't fit in 64 bits, and so it is applied in two steps. 5729577951308232 is 1374639 times 4168060088.
 #[rattlefmt::skip]
 pub const SUN_UNIT_COARSELY: Frac = Frac { num: 1_374_639, den: 1_000_000 };
@@ -172,7 +172,7 @@ pub const SUN_UNIT_COARSELY: Frac = Frac { num: 1_374_639, den: 1_000_000 };
 #[rattlefmt::skip]
 pub const SUN_UNIT_FINELY: Frac = Frac { num: 4_168_060_088, den: 1_000_000_000_000_000 };
 
-/// The sun's 49 waves, their sizes in units of 0.000005729577951308232 degrees.
+/// The sun's 49 periodic terms, their sizes in units of 0.000005729577951308232 degrees.
 #[rattlefmt::skip]
 pub const SUN_WAVES: [Wave; 49] = [
     Wave { size: 403_406, phase: 2_705_486_100, rate: 9_287_892 },

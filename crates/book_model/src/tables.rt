@@ -32,7 +32,7 @@ pub const MILLISECONDS_OF_DAY: Frac = Frac { num: 86_400_000, den: 1 };
 /// The thousandths of a degree.
 pub const THOUSANDTHS_OF_DEGREE: Frac = Frac { num: 1000, den: 1 };
 
-/// How near the two ends of a bisection come to one another: a hundred-thousandth.
+/// How close the two bounds of a bisection get: a hundred-thousandth.
 pub const HUNDRED_THOUSANDTH: Frac = Frac {
     num: 1,
     den: 100_000,

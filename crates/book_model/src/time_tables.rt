@@ -86,7 +86,7 @@ pub const SIDEREAL_TIME: Cubic = Cubic {
 /// An hour, in days.
 pub const HOUR: Frac = Frac { num: 1, den: 24 };
 
-/// The first day (R.D.) of the years of which there are corrections, 1 January of the year -499, and the day after their last
+/// The first day (R.D.) of the years of which ΔT is known, 1 January of the year -499, and the day after their last
 /// one, 1 January 2151.
 pub const TABLE_START: i64 = -182_621;
 

@@ -1,4 +1,4 @@
-//! The versions of printed files: which days each of them knows, and the first line of its files. Each version stands here
+//! The versions of certificates: which days each of them knows, and the first line of its files. Each version stands here
 //! once; the definitions read the tables too.
 ghost use Rattle.std.specs.Prelude.{◌≡◌};
 
@@ -7,7 +7,7 @@ use crate::{FIRST_DAY, LAST_DAY};
 
 // Definitions and calls take a version where they read a range; none below the test of a range
 // does, and each of these asks for what some version answers.
-/// A version of printed files.
+/// A version of certificates.
 #[derive(Clone, Copy, Debug, PartialEq, Eq)]
 pub enum Version {
     One,
@@ -15,7 +15,7 @@ pub enum Version {
 }
 
 // What else differs between versions is a row or a column of its own: a calendar's years, and since
-// when a kind, a place, a site, a word or a row of corrections is there.
+// when a kind, a place, a site, a word or a row of ΔT is there.
 /// What differs from version to version.
 #[derive(Clone, Copy)]
 pub struct VersionRow {
@@ -63,10 +63,10 @@ impl Version {
         VERSIONS[self as usize].days
     }
 
-    // The table of corrections is no argument of the formulas: what a version had of them is the
+    // The table of values of ΔT is no argument of the formulas: what a version had of them is the
     // formula in which the years of later rows are void (`Older.antt`), and a law says that its
     // runs stay.
-    /// Whether the version has what there is since another.
+    /// Whether the version has what came with another.
     pub fn has_since(self, since: Version) -> bool
         ensures { result ≡ has_since self since }
     {

@@ -34,9 +34,9 @@ pub enum FromWord {
 }
 
 /// A word for what a line asks: the Gregorian date, the day number (R.D.), the Persian, the Bahá'í, the Chinese, the Vietnamese, the
-/// Korean, the Japanese, the Islamic, the Hindu solar, the Hindu lunar, the French or the observed Hebrew date, the dynamical time
-/// correction, the longitude of the sun, sunset at Tehran, Cairo or Ujjain, the distance of the moon, or moonrise or moonset at one of
-/// these places.
+/// Korean, the Japanese, the Islamic, the Hindu solar, the Hindu lunar, the French or the observed Hebrew date, ΔT (dynamical less
+/// universal time), the longitude of the sun, sunset at Tehran, Cairo or Ujjain, the distance of the moon, or moonrise or moonset at
+/// one of these places.
 #[derive(Clone, Copy, Debug, PartialEq, Eq)]
 pub enum ToWord {
     Gregorian,
@@ -79,7 +79,7 @@ pub enum Meaning {
 // A row stands at the place of its value. A law says that the row found is the value's own, that
 // its word is found as that value, and that no word stands twice.
 /// The words that stand before a date, in the order of their values, with what they name by the date, and the first version of
-/// printed files that has them.
+/// certificates that has them.
 #[rattlefmt::skip]
 pub static FROM_WORDS: [(FromWord, &str, (Meaning, Version)); 19] = [
     (FromWord::Gregorian, "gregorian", (Meaning::Date(Calendar::Gregorian), Version::One)),
@@ -103,8 +103,8 @@ pub static FROM_WORDS: [(FromWord, &str, (Meaning, Version)); 19] = [
     (FromWord::LastQuarter, "last-quarter", (Meaning::Value(Kind::LastQuarter, Place::None), Version::One)),
 ];
 
-/// The words for what a line asks, in the order of their values, with what they show of a day, and the first version of printed
-/// files that has them.
+/// The words for what a line asks, in the order of their values, with what they show of a day, and the first version of
+/// certificates that has them.
 #[rattlefmt::skip]
 pub static TO_WORDS: [(ToWord, &str, (Meaning, Version)); 25] = [
     (ToWord::Gregorian, "gregorian", (Meaning::Date(Calendar::Gregorian), Version::One)),
@@ -144,7 +144,7 @@ impl FromWord {
         first_row_named(&FROM_WORDS, word)
     }
 
-    /// The first version of printed files that has the word.
+    /// The first version of certificates that has the word.
     pub fn since(self) -> Version
         ensures since { result ≡ from_since self }
     {
@@ -198,7 +198,7 @@ impl ToWord {
         first_row_named(&TO_WORDS, word)
     }
 
-    /// The first version of printed files that has the word.
+    /// The first version of certificates that has the word.
     pub fn since(self) -> Version
         ensures since { result ≡ to_since self }
     {

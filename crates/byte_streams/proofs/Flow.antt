@@ -1,4 +1,4 @@
--- Bytes that are read or written in pieces.
+-- Bytes that are read or written in chunks.
 use Rattle.std.proofs.Common.{arith, ◌≡◌, ◌∙◌, ℕ, List, [], ◌++◌, ap, sym, refl, append_assoc, append-nil, take, drop, get_or, length, ◌<◌, ◌+◌}
 use Rattle.std.proofs.lemmas.List.{take-append-drop, drop_more}
 use Rattle.std.specs.Prelude.{None, Some, Ok, Err, Result, OnErr, IsErr, ◌≤◌}
@@ -12,7 +12,7 @@ pub consumes_none : (a : Option (List ℕ)) → Consumes a a []
 consumes_none None = tt
 consumes_none (Some xs) = refl
 
--- one piece was taken, and then the next
+-- one chunk was taken, and then the next
 pub consumes_on : (a b c : Option (List ℕ)) (p q : List ℕ) → Consumes a b p → Consumes b c q → Consumes a c (p ++ q)
 consumes_on None b c p q h k = tt
 consumes_on (Some xs) None c p q h k = absurd h
@@ -24,14 +24,14 @@ pub appends_none : (a : Option (List ℕ)) → Appends a a []
 appends_none None = tt
 appends_none (Some xs) = sym (append-nil xs)
 
--- one piece was written, and then the next
+-- one chunk was written, and then the next
 pub appends_on : (a b c : Option (List ℕ)) (p q : List ℕ) → Appends a b p → Appends b c q → Appends a c (p ++ q)
 appends_on None b c p q h k = tt
 appends_on (Some xs) None c p q h k = absurd h
 appends_on (Some xs) (Some ys) None p q h k = absurd k
 appends_on (Some xs) (Some ys) (Some zs) p q h k = k ∙ ap (λ t. t ++ q) h ∙ append_assoc xs p q
 
--- a piece was written, and then nothing
+-- a chunk was written, and then nothing
 pub appends_kept : (a b c : Option (List ℕ)) (p : List ℕ) → Appends a b p → Keeps b c → Appends a c p
 appends_kept None b c p h k = tt
 appends_kept (Some xs) None c p h k = absurd h
@@ -42,7 +42,7 @@ appends_kept (Some xs) (Some ys) (Some zs) p h k = k ∙ h
 pub wrote_none : (a : Option (List ℕ)) (t : List ℕ) → Wrote a a t t
 wrote_none a t = record { front = []; appended = appends_none a; whole = refl }
 
--- a piece more is written
+-- a chunk more is written
 pub wrote_on : (a b c : Option (List ℕ)) (t p r : List ℕ) → Wrote a b t (p ++ r) → Appends b c p → Wrote a c t r
 wrote_on a b c t p r w k = record {
   front = w.front ++ p;
@@ -54,7 +54,7 @@ wrote_on a b c t p r w k = record {
 pub wrote_kept : (a b c : Option (List ℕ)) (t r : List ℕ) → Wrote a b t r → Keeps b c → Wrote a c t r
 wrote_kept a b c t r w k = record { front = w.front; appended = appends_kept a b c w.front w.appended k; whole = w.whole }
 
--- a front of a piece more is written
+-- a prefix of a chunk more is written
 pub wrote_front : (a b c : Option (List ℕ)) (t p r : List ℕ) → Wrote a b t (p ++ r) → AppendsFront b c p → AppendsFront a c t
 wrote_front a b c t p r w k = record {
   rest = k.rest ++ r;
@@ -81,11 +81,11 @@ pub at_any_err : {T E P : Type 0} (r : Result T E) → P → OnErr r P
 at_any_err (Ok x) p = tt
 at_any_err (Err e) p = p
 
--- nothing of a text is written, which is a front of it
+-- nothing of a text is written, which is a prefix of it
 pub front_none : (a : Option (List ℕ)) (t : List ℕ) → AppendsFront a a t
 front_none a t = record { rest = t; wrote = wrote_none a t }
 
--- a front of the first part is a front of both
+-- a prefix of the first part is a prefix of both
 pub front_first : (a b : Option (List ℕ)) (p q : List ℕ) → AppendsFront a b p → AppendsFront a b (p ++ q)
 front_first a b p q k = wrote_front a a b (p ++ q) p q (wrote_none a (p ++ q)) k
 
@@ -100,7 +100,7 @@ buffered_on a b c t w p w' r old new =
     let split : Wrote a b t (new.front ++ (w' ++ r)) = rw (← append_assoc) (rw new.whole at grouped) in
     wrote_on a b c t new.front (w' ++ r) split new.appended
 
--- a front of a part more was put
+-- a prefix of a part more was put
 pub buffered_front : (a b c : Option (List ℕ)) (t w p r : List ℕ) → Wrote a b t (w ++ (p ++ r)) → AppendsFront b c (w ++ p) → AppendsFront a c t
 buffered_front a b c t w p r old new =
     let grouped : Wrote a b t ((w ++ p) ++ r) = rw append_assoc old in
@@ -111,7 +111,7 @@ pub put_part : {X : Type 0} (f : X → List ℕ) (a b c : Option (List ℕ)) (t 
     → Wrote a b t (w ++ flat_map f (drop i xs)) → Wrote b c (w ++ f (get_or xs i d)) w' → Wrote a c t (w' ++ flat_map f (drop (i + 1) xs))
 put_part f a b c t w w' xs i d h old new = buffered_on a b c t w (f (get_or xs i d)) w' (flat_map f (drop (i + 1) xs)) (rw (drop_more xs i d h) at old) new
 
--- a front of the next of the parts is put
+-- a prefix of the next of the parts is put
 pub put_part_front : {X : Type 0} (f : X → List ℕ) (a b c : Option (List ℕ)) (t w : List ℕ) (xs : List X) (i : ℕ) (d : X) → i < length xs
     → Wrote a b t (w ++ flat_map f (drop i xs)) → AppendsFront b c (w ++ f (get_or xs i d)) → AppendsFront a c t
 put_part_front f a b c t w xs i d h old new = buffered_front a b c t w (f (get_or xs i d)) (flat_map f (drop (i + 1) xs)) (rw (drop_more xs i d h) at old) new
@@ -130,15 +130,15 @@ put_both a b c w p w' q w'' h k =
     let more : Wrote a b ((w ++ p) ++ q) (w' ++ q) = wrote_more a b (w ++ p) w' q h in
     wrote_then a b c (w ++ (p ++ q)) (w' ++ q) w'' (rw append_assoc at more) k
 
--- a front of the first of two parts was put
+-- a prefix of the first of two parts was put
 pub put_first_front : (a b : Option (List ℕ)) (w p q : List ℕ) → AppendsFront a b (w ++ p) → AppendsFront a b (w ++ (p ++ q))
 put_first_front a b w p q k = let more = front_first a b (w ++ p) q k in rw append_assoc at more
 
--- the first of two parts was put, and a front of the second
+-- the first of two parts was put, and a prefix of the second
 pub put_second_front : (a b c : Option (List ℕ)) (w p w' q : List ℕ) → Wrote a b (w ++ p) w' → AppendsFront b c (w' ++ q) → AppendsFront a c (w ++ (p ++ q))
 put_second_front a b c w p w' q h k = record { rest = k.rest; wrote = put_both a b c w p w' q k.rest h k.wrote }
 
--- a front of what was left is written
+-- a prefix of what was left is written
 pub front_then : (a b c : Option (List ℕ)) (t r : List ℕ) → Wrote a b t r → AppendsFront b c r → AppendsFront a c t
 front_then a b c t r w k = record { rest = k.rest; wrote = wrote_then a b c t r k.rest w k.wrote }
 
@@ -146,7 +146,7 @@ front_then a b c t r w k = record { rest = k.rest; wrote = wrote_then a b c t r 
 pub wrote_flushed : (a b c : Option (List ℕ)) (t r : List ℕ) → Wrote a b t r → Appends b c r → Appends a c t
 wrote_flushed a b c t r w k = wrote_all a c t (wrote_on a b c t r [] (rw (append-nil r) w) k)
 
--- the first of two parts was written, and a front of the second
+-- the first of two parts was written, and a prefix of the second
 pub front_second : (a b c : Option (List ℕ)) (p q : List ℕ) → Appends a b p → AppendsFront b c q → AppendsFront a c (p ++ q)
 front_second a b c p q h k = record { rest = k.rest; wrote = wrote_then a b c (p ++ q) q k.rest (record { front = p; appended = h; whole = refl }) k.wrote }
 
@@ -155,24 +155,24 @@ pub wrote_part : {X : Type 0} (f : X → List ℕ) (a b c : Option (List ℕ)) (
     → Wrote a b t (flat_map f (drop i xs)) → Appends b c (f (get_or xs i d)) → Wrote a c t (flat_map f (drop (i + 1) xs))
 wrote_part f a b c t xs i d h old new = wrote_on a b c t (f (get_or xs i d)) (flat_map f (drop (i + 1) xs)) (rw (drop_more xs i d h) at old) new
 
--- a front of the next of the parts is written
+-- a prefix of the next of the parts is written
 pub wrote_part_front : {X : Type 0} (f : X → List ℕ) (a b c : Option (List ℕ)) (t : List ℕ) (xs : List X) (i : ℕ) (d : X) → i < length xs
     → Wrote a b t (flat_map f (drop i xs)) → AppendsFront b c (f (get_or xs i d)) → AppendsFront a c t
 wrote_part_front f a b c t xs i d h old new = wrote_front a b c t (f (get_or xs i d)) (flat_map f (drop (i + 1) xs)) (rw (drop_more xs i d h) at old) new
 
--- a call failed, as one within it did, and a front of its text is written
+-- a call failed, as one within it did, and a prefix of its text is written
 pub writes_failed : {S T U E F : Type 0} {w : S → Option (List ℕ)} {f : S → ℕ} {a c : S} {count : ℕ} {t : List ℕ} {e : E} {r : Result U F}
     → IsErr r → AppendsFront (w a) (w c) t → f a ≤ count → HasCause {T = T} {E = E} count (f c) (Err e) → Writes w f a c t r
 writes_failed {r = Ok y} n front later cause = absurd (cc)
 writes_failed {r = Err d} n front later cause =
     record { ok = tt; err = front; cause = record { later = omega (arith, cause.later); failed = omega (arith, cause.failed) } }
 
--- the first of two texts failed, and a front of it is written
+-- the first of two texts failed, and a prefix of it is written
 pub writes_first : {S T U E F : Type 0} {w : S → Option (List ℕ)} {f : S → ℕ} {a b : S} {p : List ℕ} {e : E} {r : Result U F} (q : List ℕ)
     → IsErr r → Writes {S = S} {T = T} {E = E} w f a b p (Err e) → Writes w f a b (p ++ q) r
 writes_first {w = w} {f = f} {a = a} {b = b} {p = p} q n h = writes_failed n (front_first (w a) (w b) p q h.err) (omega arith) h.cause
 
--- the first of two texts was written, and then the second, or a front of it
+-- the first of two texts was written, and then the second, or a prefix of it
 pub writes_then : {S T U E F : Type 0} {w : S → Option (List ℕ)} {f : S → ℕ} {a b c : S} {p q : List ℕ} {x : T} {r : Result U F}
     → Writes {S = S} {T = T} {E = E} w f a b p (Ok x) → Writes w f b c q r → Writes w f a c (p ++ q) r
 writes_then {w = w} {f = f} {a = a} {b = b} {c = c} {p = p} {q = q} {r = Ok y} h k =
@@ -180,7 +180,7 @@ writes_then {w = w} {f = f} {a = a} {b = b} {c = c} {p = p} {q = q} {r = Ok y} h
 writes_then {w = w} {f = f} {a = a} {b = b} {c = c} {p = p} {q = q} {r = Err e} h k =
     writes_failed refl (front_second (w a) (w b) (w c) p q h.ok k.err) h.cause.later k.cause
 
--- a text was written up to one of its parts, of which a front is written
+-- a text was written up to one of its parts, of which a prefix is written
 pub writes_up_to : {X S T U E F : Type 0} {w : S → Option (List ℕ)} {f : S → ℕ} {a b c : S} {t : List ℕ} {e : E} {r : Result U F} (g : X → List ℕ) (xs : List X)
     (i : ℕ) (d : X)
     → IsErr r → i < length xs → Wrote (w a) (w b) t (flat_map g (drop i xs)) → f a ≤ f b
@@ -199,5 +199,5 @@ failed_second r a b c p q h k = at_any_err r (front_second a b c p q h k)
 pub failed_before : {T E : Type 0} (r : Result T E) (a : Option (List ℕ)) (t : List ℕ) → OnErr r (AppendsFront a a t)
 failed_before r a t = at_any_err r (front_none a t)
 
--- one text written after another, in full or up to a front
+-- one text written after another, in full or up to a prefix
 pub ruleset writing = (appends_on, failed_first, failed_second, failed_before, front_none)

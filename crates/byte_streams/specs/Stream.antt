@@ -1,4 +1,4 @@
--- Faults that have a cause, and bytes of which a front is written.
+-- Faults that have a cause, and bytes of which a prefix is written.
 use Rattle.std.specs.Prelude.{◌≡◌, ◌≤◌, ◌+◌, ◌-◌, ◌^◌, ℕ, List, ◌++◌, min, Result, OnOk, OnErr}
 use Rattle.std.specs.declared.option.Option.{Option}
 use Rattle.std.specs.Io.KnownBytes.{Appends}
@@ -22,12 +22,12 @@ pub record Wrote (old new : Option (List ℕ)) (bytes rest : List ℕ) : Type 0 
   pub appended : Appends old new front
   pub whole : bytes ≡ front ++ rest
 
--- a front of these bytes was appended
+-- a prefix of these bytes was appended
 pub record AppendsFront (old new : Option (List ℕ)) (bytes : List ℕ) : Type 0 where
   pub rest : List ℕ
   pub wrote : Wrote old new bytes rest
 
--- a call that is to write these bytes has appended them all, or failed, which has its cause, and appended a front of them
+-- a call that is to write these bytes has appended them all, or failed, which has its cause, and appended a prefix of them
 pub record Writes {S T E : Type 0} (written : S → Option (List ℕ)) (faults : S → ℕ) (old new : S) (bytes : List ℕ) (result : Result T E) : Type 0 where
   pub ok : OnOk result (Appends (written old) (written new) bytes)
   pub err : OnErr result (AppendsFront (written old) (written new) bytes)

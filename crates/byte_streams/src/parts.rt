@@ -14,10 +14,10 @@ pub fn decimal<'a, I: Integer>(buffer: &'a mut Buffer, number: I) -> &'a [u8]
     buffer.format(number).as_bytes()
 }
 
-// What a call appends is one word (`Writes`): on `Ok` the whole text, on `Err` a front of it, and
+// What a call appends is one word (`Writes`): on `Ok` the whole text, on `Err` a prefix of it, and
 // why.
-/// Writes one part after the other. At an error, which comes only where the count of the sink's faults rose, a front of
-/// them was written.
+/// Writes one part after the other. At an error, which comes only where the count of the sink's faults rose, a prefix
+/// of them was written.
 pub fn write_parts<K: Sink>(sink: &mut K, parts: &[&[u8]]) -> Result<(), Failed>
     ensures { Writes K.written K.faults sink.old sink.new (flat_map
         (λ part. part.now) parts.now) result }
@@ -29,7 +29,7 @@ pub fn write_parts<K: Sink>(sink: &mut K, parts: &[&[u8]]) -> Result<(), Failed>
 }
 
 /// Writes a line of two counts, each behind its words. At an error, which comes only where the count of the sink's
-/// faults rose, a front of it was written.
+/// faults rose, a prefix of it was written.
 pub fn write_two_counts<K: Sink>(
     sink: &mut K,
     head: &[u8],

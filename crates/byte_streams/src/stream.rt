@@ -83,7 +83,7 @@ pub fn read_all<S: Source>(alloc: Global, source: &mut S, limit: usize) -> Resul
     ensures later { S.faults source.old ≤ S.faults source.new }
 {
     let mut held = Vec::new(alloc);
-    // By pieces, so that no more memory is wanted than there are bytes, whatever the limit is.
+    // By chunks, so that no more memory is needed than there are bytes, whatever the limit is.
     let mut piece = [0u8; 4096];
     while held.len() <= limit {
         let count = source.read(&mut piece)?;
@@ -95,8 +95,8 @@ pub fn read_all<S: Source>(alloc: Global, source: &mut S, limit: usize) -> Resul
     Err(ReadStop::TooLarge)
 }
 
-/// Writes all the bytes, in as many calls as it takes. At an error a front of them was written, and the count of
-/// faults rose.
+/// Writes all the bytes, in as many calls as it takes. At an error a prefix of them was written, and the count
+/// of faults rose.
 #[tactic(auto, using(crate::proofs::Flow::wrote_take))]
 pub fn write_all<K: Sink>(sink: &mut K, bytes: &[u8]) -> Result<(), Failed>
     ensures { Writes K.written K.faults sink.old sink.new bytes.now result }

@@ -98,7 +98,7 @@ product_lies (negsuc n) p h k =
     let many : suc n * p ≤ 100000000 * p = mul-le-mul_right p (omega (arith, ints, h)) in
     record { from = omega (arith, ints, many); to = omega (arith, ints) }
 
--- the number of a count of spans lies within the quotient's ends
+-- the number of a count of spans lies within the quotient's bounds
 pub days_lie : (n : ℤ) (s t d : ℕ) → WithinCounts s n → s ≤ 1000 * t → 0 < d → WithinQuotients (t * d) n
 days_lie n s t zero h k l = absurd (omega arith)
 days_lie n s t (suc d) h k l =
@@ -107,7 +107,7 @@ days_lie n s t (suc d) h k l =
     let high : n ≤ℤ (pos 100000000 *ℤ pos s) = h.to in
     record { from = omega (arith, ints, more, low, k); to = omega (arith, ints, more, high, k) }
 
--- the number of a sum of days and spans lies within the quotient's ends
+-- the number of a sum of days and spans lies within the quotient's bounds
 pub sums_lie : (n m : ℤ) (s t d : ℕ) → WithinCounts (t * d) n → WithinCounts s m → t ≤ s → 0 < d
     → WithinQuotients (s * d) (n +ℤ m)
 sums_lie n m s t zero h k l o = absurd (omega arith)

@@ -2,8 +2,8 @@
 ghost use Rattle.std.specs.Prelude.{◌≡◌, pos};
 ghost use Rattle.book_model.specs.calendars.Inquiries.{to_8_bits as nearest_of_8, to_32_bits as nearest_of_32};
 
-// Fields that don't fit stand at the nearest end: so the date of a day is defined over every table
-// of values, also a false one, over which `check` runs the rule. Over true values each field fits.
+// Fields that don't fit are clamped to the nearest bound: so the date of a day is defined over every
+// table of values, also a false one, over which `check` runs the rule. Over true values each field fits.
 /// The nearest number of 8 bits.
 pub fn to_8_bits(value: i64) -> u8
     ensures number { pos result ≡ nearest_of_8 value }

@@ -1,4 +1,4 @@
-//! The program: hands its words and its standard streams to `run_core::run`, and ends with the number of the status.
+//! The program: hands its arguments and its standard streams to `run_core::run`, and ends with the number of the status.
 #![tactic(auto)]
 
 use fact_eval::Staged;
@@ -8,14 +8,14 @@ use std::env::{self, Args};
 use std::io::{self, ErrorKind};
 use std::process::ExitCode;
 
-/// What the program ends with where memory is wanted while the words are collected.
+/// What the program ends with where memory runs out while the arguments are collected.
 const MEMORY: u8 = 5;
 
 // No run ends so.
-/// What the program ends with where the system doesn't hand over the words as text.
+/// What the program ends with where the system doesn't hand over the arguments as text.
 const NO_WORDS: u8 = 8;
 
-/// The words after the program's name.
+/// The arguments after the program's name.
 fn words(alloc: Global, args: Args) -> Result<Vec<String>, AllocError> {
     args.skip(1).collect(alloc)
 }

@@ -75,7 +75,7 @@ paired_with table fs f v e = rw (among_paired table f fs) (step (list_any (fact_
     step true = refl
     step false = rw (← e) (sym (paired_more table fs f))
 
--- over listed facts that stand, the inquiry finds at each depth what it comes to over their values
+-- over listed facts that stand, the inquiry finds at each depth its result over their values
 module _ {A : Type 0} (n : ℕ) (deep : 40 ≤ n) (es : List (Fact × ℤ)) (all : AllStand es) where
   pub finds_traced : (i : Inquiry A) (seen asked : List Fact) (a : A) → trace_after (facts_of es) (values_of es) seen i ≡ traced a asked
       → finding_after n (paired (listed_table es) seen) i ≡ found a (paired (listed_table es) asked)

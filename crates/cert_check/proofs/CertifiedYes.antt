@@ -106,7 +106,7 @@ module _ {A : Type 0} (n : ℕ) where
       step (void_at s) rest l = cc
       step (open_at s) rest l = cc
 
-  -- what is found at a depth, over facts that stand, is what the inquiry comes to over their values
+  -- what is found at a depth, over facts that stand, is the inquiry's result over their values
   found_traced : (i : Inquiry A) (seen es : List (Fact × ℤ)) (x : A) → 40 ≤ n → AllStand es → finding_after n seen i ≡ found x es
       → trace_after (facts_of es) (values_of es) (facts_of seen) i ≡ traced x (facts_of es)
   unfolding finding_after

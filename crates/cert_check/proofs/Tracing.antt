@@ -32,7 +32,7 @@ unlisted (g ∷ gs) (v ∷ vs) f h = let n = neither (fact_eq f g) (list_any (fa
 abbrev pub table_of : List Fact → List ℤ → Fact → ℤ
 table_of facts values f = value_in (value_beside facts values f)
 
--- a result over the listed facts is what the inquiry comes to over them, with the facts asked
+-- a result over the listed facts is the inquiry's over them, with the facts asked
 traces : {A : Type 0} {t : FactTable} {i : Inquiry A} {old new : List Fact} {r : Result A Stop} (a : A) → Tells by_table t i old new r → r ≡ Ok a
     → trace_after t.facts t.values old i ≡ traced a new
 traces a (ends {a = b} {asked = seen}) e = let same : b ≡ a = cc in ap (λ x. traced x seen) same

@@ -1,4 +1,4 @@
--- The verdict of a line of a printed file, by an answer for each fact of the file.
+-- The verdict of a line of a certificate, by an answer for each fact of the file.
 use Rattle.std.specs.Prelude.{◌≡◌, ℕ, ◌+◌, ◌-◌, ◌<◌, nat_eq, if◌then◌else◌, List, [], ◌∷◌, length, ℤ, Some, None, Option, Result, Ok, Err, slice_index_or, IsTrue}
 use Rattle.std.specs.Ordering.{int_eq}
 use Rattle.std.specs.List.{slice_get}
@@ -73,7 +73,7 @@ abbrev pub first_unanswered : List (Fact × ℤ) → List Answer → List ℕ �
 first_unanswered facts answers [] = None
 first_unanswered facts answers (n ∷ ns) = or_else (unanswered n (slice_get facts (n - 1)) (slice_get answers (n - 1))) (first_unanswered facts answers ns)
 
--- what an inquiry comes to over listed facts: a result with the facts that it asks, each once in order of first use, or
+-- what comes of an inquiry over listed facts: a result with the facts that it asks, each once in order of first use, or
 -- the first that isn't listed
 pub data Trace (A : Type 0) : Type 0 where
   traced : A → List Fact → Trace A
@@ -83,7 +83,7 @@ abbrev pub traced_at : {A : Type 0} → Fact → Option ℤ → (ℤ → Trace A
 traced_at f None next = missing f
 traced_at f (Some v) next = next v
 
--- what it comes to over facts with these values, after those that were asked
+-- what comes of it over facts with these values, after those that were asked
 abbrev pub trace_after : {A : Type 0} → List Fact → List ℤ → List Fact → Inquiry A → Trace A
 trace_after facts values seen (done a) = traced a seen
 trace_after facts values seen (ask f next) = traced_at f (value_beside facts values f) (λ v. trace_after facts values (with_fact seen f) (next v))
@@ -104,7 +104,7 @@ abbrev pub verdict_on_list : Option ℕ → Resolved → List ℕ → Verdict
 verdict_on_list None found text = verdict_on_text found text
 verdict_on_list (Some place) found text = No (reason.List place)
 
--- what a request comes to over the listed facts
+-- what comes of a request over the listed facts
 abbrev pub verdict_on_trace : List Fact → Trace Resolved → List ℕ → Verdict
 verdict_on_trace facts (missing f) text = No (reason.Missing f)
 verdict_on_trace facts (traced found asked) text = verdict_on_list (difference 1 asked facts) found text

@@ -19,8 +19,8 @@ use line_core::{ThreeWords, read_words, resolve};
 use oracle_core::{Answers, Listed, Stop};
 use std::alloc::{AllocError, Global};
 
-/// The verdict of a line whose rule stops at a fact that it doesn't list. The error is want of memory; it comes at no
-/// missing fact.
+/// The verdict of a line whose rule returns early at a fact that it doesn't list. The error is that memory ran out; it
+/// comes at no missing fact.
 fn verdict_at(stop: Stop) -> Result<Verdict, AllocError>
     ensures missing { IfOk result (λ v. NamesMissing stop v) }
     ensures memory { OnErr result ((fact : Fact) → stop ≢ missing_stop fact) }
@@ -31,8 +31,8 @@ fn verdict_at(stop: Stop) -> Result<Verdict, AllocError>
     }
 }
 
-/// The verdict of a line of a version that lists these facts with their values, and shows this text: what its request
-/// comes to over them.
+/// The verdict of a line of a version that lists these facts with their values, and shows this text, by what comes of its
+/// request over them.
 fn verdict_over(
     alloc: Global,
     version: Version,

@@ -44,7 +44,7 @@ fn verdict_by_text(alloc: Global, found: Resolved, text: &[u8]) -> Result<Verdic
     }
 }
 
-/// The verdict of a line that lists these facts and shows this text, where its rule asks those facts and comes to
+/// The verdict of a line that lists these facts and shows this text, where its rule asks those facts and gives
 /// this result.
 pub(crate) fn verdict_by_list(
     alloc: Global,

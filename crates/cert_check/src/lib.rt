@@ -1,5 +1,5 @@
-//! Checks printed files. The evaluator is asked for each fact of a file, and a line gets a verdict by those answers:
-//! yes, where its words come to what it shows over the facts that it lists, each of which was answered by its listed
+//! Checks certificates. The evaluator is asked for each fact of a file, and a line gets a verdict by those answers:
+//! yes, where its words give what it shows over the facts that it lists, each of which was answered by its listed
 //! value; no, with the first reason against it; or skip, where it shows no result.
 #![tactic(auto)]
 

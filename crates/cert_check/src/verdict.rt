@@ -1,4 +1,4 @@
-//! What is found of a printed line.
+//! What is found of a line of a certificate.
 
 use book_model::{Fact, Resolved, Site, Undecided};
 
@@ -17,7 +17,7 @@ pub enum Reason {
     Form(u8),
     /// The listed fact of this number was answered by another value than the listed one.
     Value { fact: u32, listed: i64, found: i64 },
-    /// A test of a listed fact is open.
+    /// A test of a listed fact is undecided.
     Undecided(Fact, Undecided),
     /// A listed fact has no value.
     Void(Fact, Site),
@@ -25,6 +25,6 @@ pub enum Reason {
     Missing(Fact),
     /// The facts that the rule asks, in order of first use, first differ from the listed ones at this place, from 1.
     List { place: u32 },
-    /// The rule comes to this result, whose text isn't the line's.
+    /// The rule gives this result, whose text isn't the line's.
     Date { found: Resolved },
 }

@@ -101,7 +101,7 @@ fn write_place<K: Sink>(sink: &mut K, number: u32, place: u32) -> Result<(), Fai
     write_two_counts(sink, b"no ", number, b" list ", place)
 }
 
-/// Writes the front of a line on a result, up to the result.
+/// Writes the beginning of a line on a result, up to the result.
 #[tactic(auto, unfolding(crate::specs::Text::date_head_text))]
 fn write_date_head<K: Sink>(sink: &mut K, number: u32) -> Result<(), Failed>
     ensures { Writes K.written K.faults sink.old sink.new (spec.date_head_text number) result }
@@ -148,7 +148,7 @@ fn write_reason<K: Sink>(sink: &mut K, number: u32, reason: &Reason) -> Result<(
 }
 
 /// Writes the verdict of the line of this number: `yes N`, `skip N`, or `no N` and the reason. At an error, which comes
-/// only where the count of the sink's faults rose, a front of the text was written.
+/// only where the count of the sink's faults rose, a prefix of the text was written.
 pub fn write_verdict<K: Sink>(sink: &mut K, number: u32, verdict: &Verdict) -> Result<(), Failed>
     ensures { Writes K.written K.faults sink.old sink.new
         (spec.verdict_text number verdict.now) result }
@@ -161,7 +161,7 @@ pub fn write_verdict<K: Sink>(sink: &mut K, number: u32, verdict: &Verdict) -> R
 }
 
 /// Writes how many verdicts there are of each kind, `end yes A no B skip C`. At an error, which comes only where the
-/// count of the sink's faults rose, a front of the text was written.
+/// count of the sink's faults rose, a prefix of the text was written.
 #[tactic(auto, unfolding(crate::specs::Text::counts_text))]
 pub fn write_counts<K: Sink>(sink: &mut K, yes: u32, no: u32, skip: u32) -> Result<(), Failed>
     ensures { Writes K.written K.faults sink.old sink.new (spec.counts_text yes no skip) result }

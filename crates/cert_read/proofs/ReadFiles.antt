@@ -71,7 +71,7 @@ between_them low high z h =
     let e = both_hold (int_le low z) (int_le z high) h in
     (omega (arith, ints, e.0), omega (arith, ints, e.1))
 
--- a number that is read lies between its ends
+-- a number that is read lies between its bounds
 number_between : (low high : ℤ) (ws : List (List ℕ)) (v : ℤ × List (List ℕ)) → number_at low high ws ≡ Some v → (low ≤ℤ v.0) × (v.0 ≤ℤ high)
 unfolding number_at
 number_between low high [] v h = cc

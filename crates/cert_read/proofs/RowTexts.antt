@@ -1,4 +1,4 @@
--- Each text of a printed file is words with single spaces between them, and a line feed.
+-- Each text of a certificate is words with single spaces between them, and a line feed.
 use Rattle.std.proofs.Common.{◌≡◌, ◌∙◌, ℕ, List, [], ◌∷◌, ◌++◌, map, ap, refl, append_assoc, decimal}
 use Rattle.std.specs.Fmt.{signed_decimal}
 use Rattle.std.specs.List.{flat_map}

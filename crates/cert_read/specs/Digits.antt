@@ -1,4 +1,4 @@
--- The numbers of a printed file, and how its words spell them.
+-- The numbers of a certificate, and how its words spell them.
 use Rattle.std.specs.Prelude.{ℕ, ◌-◌, ◌^◌, ◌==◌, ◌&&◌, ◌||◌, not, nat_le, nat_lt, if◌then◌else◌, Bool, List, length, drop, slice_index, ℤ, pos, negsuc, Some, None, Option}
 use Rattle.book_model.specs.sky.Correction.{is_between}
 use Rattle.book_model.specs.lines.Lines.{value_from}

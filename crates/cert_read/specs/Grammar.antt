@@ -1,4 +1,4 @@
--- The grammar of printed files: the form of a line of a file of a version, word by word.
+-- The grammar of certificates: the form of a line of a file of a version, word by word.
 use Rattle.std.specs.Prelude.{ℕ, ◌==◌, ◌&&◌, not, nat_le, nat_eq, if◌then◌else◌, Bool, true, false, List, [], ◌∷◌, codes, ℤ, Some, None, Option, option_and_then}
 use lib.Pointwise.{pointwise}
 use Rattle.book_model.specs.declared.site.Site.{Site}
@@ -81,7 +81,7 @@ day_at ws = number_at FIRST_FACT_DAY LAST_FACT_DAY ws
 abbrev pub value_at : List (List ℕ) → Option (ℤ × List (List ℕ))
 value_at ws = number_at LEAST_VALUE GREATEST_VALUE ws
 
--- an end of an open test, of 128 bits
+-- a bound of an undecided test, of 128 bits
 unfoldable pub end_at : List (List ℕ) → Option (ℤ × List (List ℕ))
 end_at ws = do
   w ← word_at ws

@@ -39,7 +39,7 @@ is_wide number = is_between (negsuc (2 ^ 127 - 1)) (pos (2 ^ 127 - 1)) number
 abbrev pub is_named_well : Fact → Bool
 is_named_well f = has_place f.kind f.place && is_day f.day
 
--- an open test whose numbers fit
+-- an undecided test whose numbers fit
 abbrev pub is_open_test : OpenTest → Bool
 is_open_test u = nat_le u.turn (2 ^ 32 - 1) && is_wide u.lo && is_wide u.hi
 

@@ -1,4 +1,4 @@
--- What a printed file is: its facts and lines in order, or the first line that breaks a rule, with the first rule that it breaks.
+-- What a certificate is: its facts and lines in order, or the first line that breaks a rule, with the first rule that it breaks.
 use Rattle.std.specs.Prelude.{◌≡◌, ℕ, ◌+◌, ◌≤◌, ◌==◌, ◌&&◌, not, nat_le, nat_eq, if◌then◌else◌, Bool, true, false, List, [], ◌∷◌, ◌++◌, length, map, ℤ, Some, None, Option, is_some, Result, Ok, Err}
 use Rattle.std.specs.List.{list_any}
 use Rattle.book_model.specs.declared.fact.Fact.{Fact}

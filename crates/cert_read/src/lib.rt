@@ -1,6 +1,7 @@
-//! Reads printed files. `read_file` answers the file that bytes are by the grammar, or the first line that breaks a
+//! Reads certificates. `read_file` answers the file that bytes are by the grammar, or the first line that breaks a
 //! rule of it. A line is read word by word (`words`, `digits`, `names`) to its form (`form`, `found`), and the forms one
-//! after another to the file (`reader`, which knows what it has seen by `seen` and `listings`). What `cert_text` writes is read again (`laws`).
+//! after another to the file (`reader`, which knows what it has seen by `seen` and `listings`). What `cert_text` writes is read again
+//! (`laws`).
 //!
 //! The grammar is defined in this crate and not in book_model, since it speaks of these types.
 #![tactic(auto)]

@@ -1,4 +1,4 @@
-//! A printed file: its facts and its lines.
+//! A certificate: its facts and its lines.
 ghost use Rattle.std.specs.Prelude.{◌≡◌, ◌<◌, ◌++◌, ◌∷◌, [], List, Some, length, slice_get, OnOk, OnErr};
 ghost use Rattle.cert_text.specs.declared.line.CertLine.{CertLine as LineView};
 
@@ -62,7 +62,7 @@ impl Lines {
     }
 }
 
-/// A printed file: its version, the facts with their values, and the lines, both in order.
+/// A certificate: its version, the facts with their values, and the lines, both in order.
 #[derive(Debug, Drop)]
 pub struct CertFile {
     pub version: Version,

@@ -1,4 +1,4 @@
-//! Reads a printed file.
+//! Reads a certificate.
 ghost use Rattle.std.specs.Prelude.{false, ◌≡◌, ◌<◌, ◌≤◌, ◌^◌, [], length};
 ghost use Rattle.book_model.specs.lines.Lines.{lines_of};
 ghost use Rattle.cert_read.specs.Reading.{Answers, grammar_of, nothing_of, reading_from};

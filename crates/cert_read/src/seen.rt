@@ -18,9 +18,9 @@ pub fn row_of(fact: Fact) -> usize
     fact.kind().number() * PLACES.len() + fact.place().number()
 }
 
-// 400,000 chosen facts took a hashed set a hundred seconds; a random key wants a source that can
+// 400,000 chosen facts took a hashed set a hundred seconds; a random key needs a source that can
 // fail. For 9,600,000 facts in order these sets take a quarter of its time, in three fifths of the
-// memory. Bits would serve the days that have a value alone.
+// memory. Sets of bits would have room for the days that have a value alone.
 /// The facts that were seen: for each kind and place the days of which one was. The days stand in order, so that a look-up
 /// takes time by their number alone. A set that hashes takes as long as whoever writes a file wants: its hasher begins with
 /// a fixed number, and days can be chosen whose hashes are alike.

@@ -1,4 +1,4 @@
-//! The words of a printed line, taken one after another.
+//! The words of a line of a certificate, taken one after another.
 ghost use Rattle.std.specs.Prelude.{◌≡◌, ◌≤ℤ◌, IfSome, IsTrue, None};
 ghost use Rattle.book_model.specs.declared.fact.TheConstants.{FIRST_FACT_DAY as first_day, LAST_FACT_DAY as last_day};
 ghost use Rattle.book_model.specs.lines.Lines as lines;
@@ -77,8 +77,8 @@ pub(crate) fn word_at(line: &[u8]) -> Option<(&[u8], &[u8])>
     cut_word(line)
 }
 
-/// Whether the first word of what begins with a space begins with another byte than a key. Most keys that are looked for stand
-/// elsewhere, and this tells it without the word.
+/// Whether the text begins with a space and then another first byte than a key's. Most keys that are tried aren't there, and
+/// this tells so without cutting off the word.
 #[inline(always)]
 fn begins_otherwise(line: &[u8], text: &[u8]) -> bool
     ensures { IsTrue result → spec.key_at text.now (words_of line.now) ≡ None }
@@ -155,7 +155,7 @@ pub(crate) fn value_at(line: &[u8]) -> Option<(i64, &[u8])>
     number_at(line, LEAST_VALUE, GREATEST_VALUE)
 }
 
-/// An end of an open test, and what follows it.
+/// A bound of an undecided test, and what follows it.
 #[tactic(auto, unfolding(crate::specs::Grammar::end_at))]
 pub(crate) fn end_at(line: &[u8]) -> Option<(i128, &[u8])>
     ensures { Gives (λ p. (p.0, words_of p.1.now)) result (spec.end_at (words_of line.now)) }

@@ -17,7 +17,7 @@ use Rattle.book_model.specs.lines.Requests.{request_of}
 use Rattle.book_model.specs.lines.Text.{text}
 use Rattle.cert_text.specs.Laws.{is_undecided, HasNoneUndecided, HasOneText}
 
--- at a fact without a value that an inquiry asks, its finding stops
+-- at a fact without a value that an inquiry asks, its finding returns early
 stops_at : {A : Type 0} (n : ℕ) (seen : List (Fact × ℤ)) (i : Inquiry A) (f : Fact) (s : Site) → AsksAt n i f → outcome (run_of n f) ≡ void_at s
     → finding_after n seen i ≡ stopped f
 unfolding finding_after

@@ -18,7 +18,7 @@ zero_digits (suc k) =
     let one : k + 1 ≡ suc k = omega arith in
     ap (λ ds. ds ++ 48 ∷ []) (zero_digits k) ∙ (replicate-append-replicate k 1 48 ∙ ap (λ n. replicate n 48) one)
 
--- digits with zeros in front
+-- digits with leading zeros
 record IsPadded (k n : ℕ) (ds : List ℕ) : Type 0 where
   short : length ds ≤ suc k
   digits : replicate (suc k - length ds) 48 ++ ds ≡ last_digits (suc k) n
@@ -53,7 +53,7 @@ digit_more n ds h front = λ k below. step k below
               ∙ ap (λ more. more ++ (48 + n % 10) ∷ []) rest.digits);
         }
 
--- a number with zeros in front is its last digits
+-- a number with leading zeros is its last digits
 padded_digits : (k n : ℕ) → n < 10 ^ suc k → n < 10 ^ 64 → padded (suc k) n ≡ last_digits (suc k) n
 padded_digits k n below small = (decimal_by_steps_wide ArePadded one_digit digit_more n small k below).digits
 

@@ -19,14 +19,14 @@ wrote_fact a b c t first es i d h w k =
     rw (← next) (wrote_on a b c t (fact_text (first + i) (get_or es i d).0 (get_or es i d).1) (fact_texts (first + i + 1) (drop (i + 1) es))
     (rw (drop_more es i d h) at w) k)
 
--- a front of the next fact is written
+-- a prefix of the next fact is written
 wrote_fact_front : (a b c : Option (List ℕ)) (t : List ℕ) (first : ℕ) (es : List (Fact × ℤ)) (i : ℕ) (d : Fact × ℤ) → i < length es
     → Wrote a b t (fact_texts (first + i) (drop i es)) → AppendsFront b c (fact_text (first + i) (get_or es i d).0 (get_or es i d).1) → AppendsFront a c t
 wrote_fact_front a b c t first es i d h w k =
     wrote_front a b c t (fact_text (first + i) (get_or es i d).0 (get_or es i d).1) (fact_texts (first + i + 1) (drop (i + 1) es))
     (rw (drop_more es i d h) at w) k
 
--- facts were written up to one of which a front is written
+-- facts were written up to one of which a prefix is written
 pub writes_up_to_fact : {S T U E F : Type 0} {w : S → Option (List ℕ)} {f : S → ℕ} {a b c : S} {t : List ℕ} {e : E} {r : Result U F} (first : ℕ)
     (es : List (Fact × ℤ)) (i : ℕ) (d : Fact × ℤ)
     → IsErr r → i < length es → Wrote (w a) (w b) t (fact_texts (first + i) (drop i es)) → f a ≤ f b

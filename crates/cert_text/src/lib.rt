@@ -1,6 +1,6 @@
-//! The text of printed files, as it is written. A file is a header, the facts and the lines, each numbered from 1, and
+//! The text of certificates, as it is written. A file is a header, the facts and the lines, each numbered from 1, and
 //! an end line that counts them. `write_block` writes the facts and the line that stand for one line of input;
-//! `write_result` writes what a line comes to.
+//! `write_result` writes the result of a line.
 //!
 //! It stands below the crate that reads such files, so that writing stands on no request of a line. There is one
 //! writer: what is proved of a block's text and of its being read again holds of what the program prints.

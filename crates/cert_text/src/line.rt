@@ -1,4 +1,4 @@
-//! The lines of a printed file, and the block of facts and a line that stands for one line of input.
+//! The lines of a certificate, and the block of facts and a line that stands for one line of input.
 use crate::echo::Echo;
 use crate::lists::{Numbers, Word};
 use book_model::{Fact, Site, Undecided};
@@ -7,7 +7,7 @@ use oracle_core::FactValues;
 // A line that lists facts never has another form, whatever its words: no word that the last three
 // forms must hold can stand where a listed line's do. A kind named `refused`, or a place named
 // `facts`, would break this.
-/// A line of a printed file without its number.
+/// A line of a certificate without its number.
 #[derive(Debug, Drop)]
 pub enum CertLine {
     /// The result, and the numbers of the facts that it rests on.
@@ -16,8 +16,8 @@ pub enum CertLine {
         result: Word,
         facts: Numbers,
     },
-    // With its facts, since they say why; the same of the next. Neither is a result, and `convert`
-    // ends with 1 for it.
+    // With the facts that say why, as the next variant. Neither is a result, so that `convert` ends with
+    // 1.
     /// The computed day (R.D.) is out of range.
     TooFar {
         echo: Echo,
@@ -32,7 +32,7 @@ pub enum CertLine {
     },
     /// The line breaks this rule, from 1 to 4.
     Refused(u8),
-    /// A test of the fact is open.
+    /// A test of the fact is undecided.
     Undecided {
         fact: Fact,
         at: Undecided,

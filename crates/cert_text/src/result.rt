@@ -14,7 +14,7 @@ use byte_streams::{Failed, Sink, decimal, write_all, write_parts};
 use itoa::Buffer;
 use std::alloc::{AllocError, Global};
 
-/// The zeros in front of digits that make them this many, up to four.
+/// The leading zeros that make digits this many, up to four.
 fn zeros(width: usize, digits: &[u8]) -> &'static [u8]
     requires few { width ≤ 4 }
     ensures zeros { result.now ≡ replicate (width - length digits.now) 48 }
@@ -162,7 +162,7 @@ fn write_dashed<K: Sink>(sink: &mut K, date: &Fields) -> Result<(), Failed>
 }
 
 /// Writes a date of a calendar: a Gregorian date with four, two and two digits, a date of another calendar with dashes
-/// between its fields. At an error, which comes only where the count of the sink's faults rose, a front of it was
+/// between its fields. At an error, which comes only where the count of the sink's faults rose, a prefix of it was
 /// written.
 pub fn write_date<K: Sink>(sink: &mut K, calendar: Calendar, date: &Fields) -> Result<(), Failed>
     ensures { Writes K.written K.faults sink.old sink.new
@@ -194,8 +194,8 @@ fn write_own_date<K: Sink>(sink: &mut K, back: &Fields) -> Result<(), Failed>
     write_dashed(sink, back)
 }
 
-/// Writes the text of what a line comes to: a date or a number, or the refusal with the day that is out of range or
-/// the day's own date. At an error, which comes only where the count of the sink's faults rose, a front of the text
+/// Writes the text of what a line shows: a date or a number, or the refusal with the day that is out of range or
+/// the day's own date. At an error, which comes only where the count of the sink's faults rose, a prefix of the text
 /// was written.
 pub fn write_result<K: Sink>(sink: &mut K, resolved: Resolved) -> Result<(), Failed>
     ensures { Writes K.written K.faults sink.old sink.new (spec.result_text resolved) result }

@@ -15,7 +15,7 @@ use itoa::Buffer;
 pub(crate) const REFUSED_5: &[u8] = b"refused 5 ";
 
 /// Writes the line of a fact with its number and its value. At an error, which comes only where the count of the sink's faults
-/// rose, a front of it was written.
+/// rose, a prefix of it was written.
 #[tactic(auto, unfolding(book_model::specs::lines::Text::fact_text))]
 pub fn write_fact<K: Sink>(sink: &mut K, number: u32, entry: &(Fact, i64)) -> Result<(), Failed>
     ensures { Writes K.written K.faults sink.old sink.new
@@ -88,8 +88,8 @@ fn write_numbers<K: Sink>(sink: &mut K, numbers: &[u32]) -> Result<(), Failed>
     Ok(())
 }
 
-/// Writes the list of facts at the end of a line. At an error, which comes only where the count of the sink's faults rose, a front
-/// of it was written.
+/// Writes the list of facts at the end of a line. At an error, which comes only where the count of the sink's faults rose, a
+/// prefix of it was written.
 #[tactic(auto, unfolding(book_model::specs::lines::Text::facts_text))]
 pub fn write_list<K: Sink>(sink: &mut K, numbers: &[u32]) -> Result<(), Failed>
     ensures { Writes K.written K.faults sink.old sink.new (model.facts_text numbers.now) result }
@@ -117,7 +117,7 @@ pub(crate) fn write_no_date<K: Sink>(sink: &mut K, back: &[u8]) -> Result<(), Fa
     write_parts(sink, &[REFUSED_5, back])
 }
 
-/// Writes the line of a line that breaks a rule.
+/// Writes the text of a line that breaks a rule.
 #[tactic(auto, unfolding(book_model::specs::lines::Text::refused_text))]
 fn write_refused<K: Sink>(sink: &mut K, number: u32, rule: u8) -> Result<(), Failed>
     ensures { Writes K.written K.faults sink.old sink.new (model.refused_text number rule) result }
@@ -188,7 +188,7 @@ fn write_empty<K: Sink>(sink: &mut K, number: u32, fact: Fact, site: Site) -> Re
 }
 
 /// Writes a line that names an undecided fact, behind a head. At an error, which comes only where the count of the
-/// sink's faults rose, a front of the text was written.
+/// sink's faults rose, a prefix of the text was written.
 pub fn write_undecided<K: Sink>(
     sink: &mut K,
     head: &[u8],
@@ -204,7 +204,7 @@ pub fn write_undecided<K: Sink>(
 }
 
 /// Writes a line that names a void fact, behind a head. At an error, which comes only where the count of the sink's
-/// faults rose, a front of the text was written.
+/// faults rose, a prefix of the text was written.
 pub fn write_void<K: Sink>(
     sink: &mut K,
     head: &[u8],
@@ -269,7 +269,7 @@ fn write_back_line<K: Sink>(
     write_list(sink, numbers)
 }
 
-/// Writes a line with its number. At an error, which comes only where the count of the sink's faults rose, a front of the
+/// Writes a line with its number. At an error, which comes only where the count of the sink's faults rose, a prefix of the
 /// text was written.
 pub fn write_line<K: Sink>(sink: &mut K, number: u32, line: &CertLine) -> Result<(), Failed>
     ensures { Writes K.written K.faults sink.old sink.new (spec.line_text number line.now) result }
@@ -295,7 +295,7 @@ pub fn write_line<K: Sink>(sink: &mut K, number: u32, line: &CertLine) -> Result
 // It asks only that its facts' numbers fit 32 bits, and writes the text of any block; that the text
 // is read again is a law with premises of its own (`cert_read::laws::read_again`).
 /// Writes the text of a block: its facts, numbered from its first, and then its line with its number. At an error,
-/// which comes only where the count of the sink's faults rose, a front of the text was written.
+/// which comes only where the count of the sink's faults rose, a prefix of the text was written.
 pub fn write_block<K: Sink>(sink: &mut K, block: &Block) -> Result<(), Failed>
     requires { block.now.first + length block.now.facts ≤ 2 ^ 32 }
     ensures { Writes K.written K.faults sink.old sink.new (spec.block_text block.now) result }

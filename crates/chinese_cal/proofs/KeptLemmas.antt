@@ -1,4 +1,4 @@
--- What is kept beside an oracle stays known while it is asked.
+-- What is cached beside an oracle stays known while it is asked.
 use Rattle.std.proofs.Common.{◌≡◌, ◌∙◌, ℕ, zero, suc, Bool, true, false, ◌||◌, refl, sym, ap, arith, ℤ, List, [], ◌∷◌, ◌++◌, if◌then◌else◌, slice_set}
 use Rattle.std.specs.Prelude.{Result, Ok, Option, Some, None, ◌⊎◌}
 use Rattle.std.proofs.Common.{inl, inr}
@@ -59,7 +59,7 @@ tells_stays f ends h = h
 tells_stays {m = m} {k = k} {old = old} f (goes_on {f = g} value t) h = tells_stays f t (stays f (m.kept_as k g) old h)
 tells_stays f (stops fresh stop) h = h
 
--- what was kept is kept still
+-- what was cached is cached still
 pub still_kept : {Known A : Type 0} {m : Meaning Known} {i : Inquiry A} {old new : State Known} {r : Result A Stop} (es : List (Option (Fact × ℤ)))
     → Inquires m i old new r → AllKept m old es → AllKept m new es
 still_kept [] h k = tt
@@ -69,13 +69,13 @@ still_kept {m = m} {old = old} {new = new} (Some e ∷ es) h k = (one, still_kep
     one : IsKept m new e.0 e.1
     one = record { known = rw h.same k.0.known; asked = rw h.same (tells_stays (m.kept_as old.known e.0) h.tells k.0.asked); value = k.0.value }
 
--- nothing is kept
+-- nothing is cached
 pub empty_kept : {Known : Type 0} (m : Meaning Known) (s : State Known) (es : List (Option (Fact × ℤ))) → AreEmpty es → AllKept m s es
 empty_kept m s [] h = tt
 empty_kept m s (None ∷ es) h = empty_kept m s es h
 empty_kept m s (Some e ∷ es) h = absurd h
 
--- what is found is kept
+-- what is found is cached
 pub found_kept : {Known : Type 0} {m : Meaning Known} {s : State Known} (es : List (Option (Fact × ℤ))) (f : Fact) (v : ℤ) → AllKept m s es → kept_value es f
     ≡ Some v → IsKept m s f v
 found_kept [] f v k h = cc
@@ -89,7 +89,7 @@ found_kept {m = m} {s = s} (Some e ∷ es) f v k h = by (fact_eq e.0 f) refl (fo
         rw (← fact_is, ← value_is) k.0
     by false other rest h = rest h
 
--- a kept fact is answered with nothing asked
+-- a cached fact is answered with nothing asked
 pub asked_kept : {Known : Type 0} {m : Meaning Known} {s : State Known} (f : Fact) (v : ℤ) → IsKept m s f v → Inquires m (ask_once f) s s (Ok v)
 unfolding ask_once
 asked_kept {m = m} {s = s} f v k =
@@ -125,7 +125,7 @@ answered {m = m} {k = k} {old = old} {new = new} f v (goes_on {f = g} {v = w} {n
     (rw (← gf, ← wv) value, rw (← gf, d.0) (joined (m.kept_as k g) old))
 answered f v (stops fresh stop) is res = absurd (cc)
 
--- what was answered may be kept
+-- what was answered may be cached
 pub answered_kept : {Known : Type 0} {m : Meaning Known} {old new : State Known} (f : Fact) (v : ℤ) → Inquires m (ask_once f) old new (Ok v) → IsFactValue v
     → IsKept m new f v
 unfolding ask_once
@@ -133,7 +133,7 @@ answered_kept {m = m} {old = old} {new = new} f v h value =
     let a = answered f v h.tells refl refl in
     record { known = rw h.same a.0; asked = rw h.same a.1; value = value }
 
--- one more is kept
+-- one more is cached
 pub one_more : {Known : Type 0} {m : Meaning Known} {s : State Known} (es : List (Option (Fact × ℤ))) (n : ℕ) (f : Fact) (v : ℤ) → IsKept m s f v
     → AllKept m s es → AllKept m s (slice_set es n (Some (f, v)))
 one_more [] n f v h k = tt

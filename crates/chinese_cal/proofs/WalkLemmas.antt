@@ -21,11 +21,11 @@ unfolding and_then
 settled (done b) = same_answer b
 settled (ask x next) = λ j. ask x (λ v. settled (next v) j)
 
--- what is found already, or else whether one of these months is bare
+-- what is found already, or else whether one of these months has no major term
 abbrev or_one_bare : List ℤ → Bool → Inquiry Bool
 or_one_bare months found = if found then done true else one_bare months
 
--- what is found already, or else whether a month is bare
+-- what is found already, or else whether a month has no major term
 abbrev or_bare : ℤ → Bool → Inquiry Bool
 or_bare month found = if found then done true else bare month
 

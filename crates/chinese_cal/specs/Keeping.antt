@@ -1,4 +1,4 @@
--- Values of facts that are kept beside an oracle.
+-- Values of facts that are cached beside an oracle.
 use Rattle.std.specs.Prelude.{◌≡◌, true, ℤ, List, [], ◌∷◌, Option, Some, None, if◌then◌else◌}
 use Rattle.std.specs.List.{list_any}
 use Rattle.book_model.specs.declared.fact.Fact.{Fact}
@@ -20,7 +20,7 @@ AllKept m s [] = Unit {0}
 AllKept m s (None ∷ es) = AllKept m s es
 AllKept m s (Some e ∷ es) = IsKept m s e.0 e.1 × AllKept m s es
 
--- so it is of all that is kept beside an oracle
+-- so it is of all that is cached beside an oracle
 abbrev pub Keeps : {O : Type 0} → Ghosts O → O → Kept → Type 0
 Keeps g oracle kept = AllKept g.meaning (g.state oracle) kept.places
 

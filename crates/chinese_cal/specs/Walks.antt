@@ -12,7 +12,7 @@ months_back (suc calls) first month later =
     ask (moon_before_fact month) λ before.
     months_back calls first before (month ∷ later))
 
--- whether one of the months is bare, asked from the first on as far as one that is
+-- whether one of the months has no major term, asked from the first on as far as one without
 unfoldable pub one_bare : List ℤ → Inquiry Bool
 one_bare [] = done false
 one_bare (month ∷ later) =

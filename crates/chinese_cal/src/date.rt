@@ -65,7 +65,7 @@ fn number_of(month: ChineseMonth) -> u8
     month.number as u8
 }
 
-/// The day of the month that begins on a day, or the nearest end.
+/// The day of the month that begins on a day, or the nearest bound.
 fn day_of_month(day: i64, first: i64) -> u8
     requires near { IsNearDay day }
     requires first_near { IsNearDay first }
@@ -90,7 +90,7 @@ fn date_from_month(day: i64, month: ChineseMonth, years: i64) -> ChineseDate
     }
 }
 
-/// The date of a day, beside what is kept. It stops where the oracle stops.
+/// The date of a day, beside what is cached. It returns early where the oracle does.
 pub(crate) fn date_from_facts<O: Oracle>(
     oracle: &mut O,
     kept: &mut Kept,
@@ -111,8 +111,8 @@ pub(crate) fn date_from_facts<O: Oracle>(
 /// The date of a day (R.D.): the month that begins with the last new moon before the day ends in Beijing, numbered from the
 /// winter solstice of its sui, whose month is the eleventh; in a sui with thirteen months the first without a major solar term
 /// is a leap month. Cycle and year follow from the mean years since the epoch. A day of the month that its type doesn't hold
-/// stands at the nearest end; the other fields always fit. It stops where the oracle stops, at one of the facts that the rules
-/// ask, of which it asks none twice (Reingold and Dershowitz, Calendrical Calculations, chapter 19).
+/// is clamped to the nearest bound; the other fields always fit. It returns early where the oracle does, at one of the facts
+/// that the rules ask, of which it asks none twice (Reingold and Dershowitz, Calendrical Calculations, chapter 19).
 ///
 /// ```
 /// let evaluator = Staged::new();

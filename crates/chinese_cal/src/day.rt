@@ -34,7 +34,7 @@ fn has_month(date: ChineseDate, month: u8, leap: bool) -> bool
     date.month == month && date.leap == leap
 }
 
-/// The first day of a month of a year. It stops where the oracle stops.
+/// The first day of a month of a year. It returns early where the oracle does.
 fn month_beginning<O: Oracle>(
     oracle: &mut O,
     kept: &mut Kept,
@@ -69,9 +69,9 @@ fn day_by(first: i64, day: u8) -> i64
 }
 
 /// The day (R.D.) of a date: the first new moon 29 days for each month before it after the new year, or the one after that
-/// where the first is in another month, and the day of the month. The date needn't be one that the calendar has. It stops
-/// where the oracle stops, at one of the facts that the rules ask, of which it asks none twice (Reingold and Dershowitz,
-/// Calendrical Calculations, chapter 19).
+/// where the first is in another month, and the day of the month. The date needn't be one that the calendar has. It
+/// returns early where the oracle does, at one of the facts that the rules ask, of which it asks none twice (Reingold and
+/// Dershowitz, Calendrical Calculations, chapter 19).
 ///
 /// ```
 /// let evaluator = Staged::new();

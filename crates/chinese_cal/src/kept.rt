@@ -1,4 +1,4 @@
-//! Facts with their values that are kept for the length of a call.
+//! Facts with their values that are cached for the length of a call.
 ghost use Rattle.std.specs.Prelude.{◌≡◌, ◌⊎◌, length, slice_set, Some};
 ghost use Rattle.chinese_cal.specs.Keeping.{AreEmpty, kept_value};
 
@@ -6,7 +6,7 @@ use book_model::Fact;
 
 // At most 129 facts for the date of a day, and 26 more for the day of a date. Were it full, the
 // oracle would be asked again, which changes no answer.
-/// How many facts are kept at most: one call asks fewer.
+/// How many facts are cached at most: one call asks fewer.
 const MOST: usize = 160;
 
 // So a call asks the oracle nothing twice. An array takes no memory from the system, and is looked
@@ -35,7 +35,7 @@ fn find(mut places: &[Option<(Fact, i64)>], fact: Fact) -> Option<i64>
 }
 
 impl Kept {
-    /// Nothing is kept.
+    /// Nothing is cached.
     pub(crate) fn new() -> Kept
         ensures empty { AreEmpty result.places }
     {
@@ -45,14 +45,14 @@ impl Kept {
         }
     }
 
-    /// The value that is kept of a fact.
+    /// The value that is cached of a fact.
     pub(crate) fn find(&self, fact: Fact) -> Option<i64>
         ensures found { result ≡ kept_value self.now.places fact }
     {
         find(&self.places, fact)
     }
 
-    /// Keeps a fact with its value, where there is room.
+    /// Caches a fact with its value, where there is room.
     pub(crate) fn keep(&mut self, fact: Fact, value: i64)
         ensures kept { (self.new.places ≡
             slice_set self.old.places self.old.count (Some (fact, value)))

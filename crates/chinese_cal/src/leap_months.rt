@@ -10,8 +10,8 @@ use crate::kept::Kept;
 use crate::walk::{is_bare, prior};
 use oracle_core::{Oracle, Stop};
 
-/// Whether a month of a sui is its leap month or comes after it, given whether the sui has one. It stops where the oracle
-/// stops.
+/// Whether a month of a sui is its leap month or comes after it, given whether the sui has one. It returns early where
+/// the oracle does.
 #[tactic(auto, using(oracle_core::proofs::Inquiring::asking), unfolding(book_model::specs::calendars::Chinese::is_from_leap_month))]
 pub(crate) fn is_from_leap_month<O: Oracle>(
     oracle: &mut O,
@@ -34,8 +34,8 @@ pub(crate) fn is_from_leap_month<O: Oracle>(
     }
 }
 
-/// Whether a month of a sui is its leap month, given whether the sui has one: it is bare, and none before it is. It stops
-/// where the oracle stops.
+/// Whether a month of a sui is its leap month, given whether the sui has one: it has no major term, and each before it
+/// has one. It returns early where the oracle does.
 pub(crate) fn is_leap_month<O: Oracle>(
     oracle: &mut O,
     kept: &mut Kept,
@@ -57,7 +57,7 @@ pub(crate) fn is_leap_month<O: Oracle>(
         return Ok(false);
     }
     let before = ask_kept(oracle, kept, moon_before(month))?;
-    // It walks anew, over kept facts alone: this walk and the first would agree on one list of
+    // It walks anew, over cached facts alone: this walk and the first would agree on one list of
     // months only where the first ended before its fifteenth call.
     let found = prior(oracle, kept, first, before)?;
     Ok(!found)

@@ -64,7 +64,7 @@ fn month_by(first: i64, month: i64, from_leap: bool, is_leap: bool) -> ChineseMo
     }
 }
 
-/// A month of a sui, given whether the sui has a leap month. It stops where the oracle stops.
+/// A month of a sui, given whether the sui has a leap month. It returns early where the oracle does.
 fn month_in<O: Oracle>(
     oracle: &mut O,
     kept: &mut Kept,
@@ -84,7 +84,7 @@ fn month_in<O: Oracle>(
     Ok(month_by(sui.first_month, month, from_leap, is_leap))
 }
 
-/// The month in which a day falls. It stops where the oracle stops.
+/// The month in which a day falls. It returns early where the oracle does.
 pub(crate) fn chinese_month<O: Oracle>(
     oracle: &mut O,
     kept: &mut Kept,

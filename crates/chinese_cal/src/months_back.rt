@@ -4,8 +4,8 @@ ghost use Rattle.chinese_cal.specs.Days.{IsNearDay};
 
 use std::marker::Model;
 
-// The definition's recursion makes as many calls, the outermost the first, so that it ends over
-// tables of facts that are false, too.
+// The definition's recursion makes at most so many calls, the outermost counted as the first, so that it ends over
+// tables of false facts too.
 /// How many months there may be: a sui has thirteen at most.
 pub(crate) const MOST_MONTHS: usize = 15;
 

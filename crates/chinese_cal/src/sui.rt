@@ -34,8 +34,8 @@ fn are_twelve_apart(from: i64, to: i64) -> bool
     months_from_to(from, to) == 12
 }
 
-/// The sui in which a day falls. It stops where the oracle stops, at one of the two solstices or at the new moon after the
-/// first.
+/// The sui in which a day falls. It returns early where the oracle does, at one of the two solstices or at the new moon
+/// after the first.
 pub(crate) fn sui_of<O: Oracle>(oracle: &mut O, kept: &mut Kept, day: i64) -> Result<Sui, Stop>
     requires kept { Keeps O.Oracle oracle.old kept.old }
     requires near { IsNearDay day }
@@ -52,8 +52,8 @@ pub(crate) fn sui_of<O: Oracle>(oracle: &mut O, kept: &mut Kept, day: i64) -> Re
     })
 }
 
-/// Whether a sui has thirteen months, the two of its solstices counted as one. It stops where the oracle stops, at the month
-/// of the second solstice.
+/// Whether a sui has thirteen months, the two of its solstices counted as one. It returns early where the oracle does, at
+/// the month of the second solstice.
 pub(crate) fn is_leap_sui<O: Oracle>(
     oracle: &mut O,
     kept: &mut Kept,

@@ -1,5 +1,5 @@
-//! The walk over the months of a sui: back from a month to the first, and forwards as far as one that is bare. Months are
-//! named by the day on which they begin (R.D.).
+//! The walk over the months of a sui: back from a month to the first, and forwards as far as one without a major term. Months
+//! are named by the day on which they begin (R.D.).
 //!
 //! The definition is the plain recursion, where a fact that it names twice stands twice. A lemma (`prior_is_walk`) says
 //! that the two are one inquiry, whatever the values: so nothing is asked of the gaps between months, which are 29 or
@@ -25,8 +25,8 @@ fn is_same_term(term: i64, next_term: i64) -> bool
     term == next_term
 }
 
-/// Whether a month is bare: no major solar term falls in it, so that the sun is at the same one when the next month begins. It
-/// stops where the oracle stops, at one of the two terms or at the next month.
+/// Whether a month has no major solar term: the sun is at the same one when the next month begins. It returns early where the
+/// oracle does, at one of the two terms or at the next month.
 pub(crate) fn is_bare<O: Oracle>(oracle: &mut O, kept: &mut Kept, month: i64) -> Result<bool, Stop>
     requires kept { Keeps O.Oracle oracle.old kept.old }
     requires near { IsNearDay month }
@@ -39,8 +39,8 @@ pub(crate) fn is_bare<O: Oracle>(oracle: &mut O, kept: &mut Kept, month: i64) ->
     Ok(is_same_term(term, next_term))
 }
 
-/// A month, and those before it as far as the first of its sui, put before the months after it; so many at most. It stops
-/// where the oracle stops.
+/// A month, and those before it as far as the first of its sui, put before the months after it; so many at most. It returns
+/// early where the oracle does.
 fn walk_back<O: Oracle>(
     oracle: &mut O,
     kept: &mut Kept,
@@ -74,8 +74,8 @@ fn walk_back<O: Oracle>(
     )
 }
 
-/// Whether one of the months is bare: they are looked at from the first on, as far as one that is. It stops where the oracle
-/// stops.
+/// Whether one of the months has no major term: they are looked at from the first on, as far as one without. It returns early
+/// where the oracle does.
 fn is_one_bare<O: Oracle>(oracle: &mut O, kept: &mut Kept, months: &[i64]) -> Result<bool, Stop>
     requires kept { Keeps O.Oracle oracle.old kept.old }
     requires near { All IsNearDay months.now }
@@ -93,8 +93,8 @@ fn is_one_bare<O: Oracle>(oracle: &mut O, kept: &mut Kept, months: &[i64]) -> Re
     }
 }
 
-/// Whether a month, or one of those before it as far as the first of its sui, is bare. The months are walked back over first,
-/// and then looked at from the earliest on. It stops where the oracle stops.
+/// Whether a month, or one of those before it as far as the first of its sui, has no major term. The months are walked back
+/// over first, and then looked at from the earliest on. It returns early where the oracle does.
 pub(crate) fn prior<O: Oracle>(
     oracle: &mut O,
     kept: &mut Kept,

@@ -16,7 +16,7 @@ use book_model::calendar_tables::{CHINESE_EPOCH, TROPICAL_YEAR};
 use calendar_math::days_of;
 use oracle_core::{Oracle, Stop};
 
-/// Whether the leap month of a sui is one of its first two, given whether it has one. It stops where the oracle stops.
+/// Whether the leap month of a sui is one of its first two, given whether it has one. It returns early where the oracle does.
 fn is_leap_at_start<O: Oracle>(
     oracle: &mut O,
     kept: &mut Kept,
@@ -41,7 +41,7 @@ fn is_leap_at_start<O: Oracle>(
 }
 
 /// The first day of the year that begins in the sui of a day: its second month, or the one after where the leap month is one of
-/// the first two. It stops where the oracle stops.
+/// the first two. It returns early where the oracle does.
 fn new_year_in_sui<O: Oracle>(oracle: &mut O, kept: &mut Kept, day: i64) -> Result<i64, Stop>
     requires kept { Keeps O.Oracle oracle.old kept.old }
     requires near { IsNearDay day }
@@ -71,7 +71,7 @@ fn new_year_before<O: Oracle>(oracle: &mut O, kept: &mut Kept, day: i64) -> Resu
     new_year_in_sui(oracle, kept, day - 180)
 }
 
-/// The first day of the year in which a day falls. It stops where the oracle stops.
+/// The first day of the year in which a day falls. It returns early where the oracle does.
 pub(crate) fn new_year_by_day<O: Oracle>(
     oracle: &mut O,
     kept: &mut Kept,

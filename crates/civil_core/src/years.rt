@@ -19,7 +19,7 @@ fn year_of_date(date: Date) -> i64
     i64::from(date.year())
 }
 
-// The ends of an enclosure may lie far outside the years of `jiff`: hence the calendar's own
+// The bounds of an enclosure may lie far outside the years of `jiff`: hence the calendar's own
 // repetition.
 /// The Gregorian year of a day number (R.D.), of 2⁷¹ days before and after day 0, as if the calendar had always been: that of
 /// the date as many times 400 years away as lies within the years 0 to 400.

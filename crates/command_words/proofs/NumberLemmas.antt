@@ -1,4 +1,4 @@
--- The numbers that words spell.
+-- The numbers that arguments spell.
 use Rattle.std.proofs.Common.{◌≡◌, ◌∙◌, ◌≤◌, ◌<◌, ◌^◌, ◌&&◌, ℕ, Bool, true, false, cond, nat_le, List, length, Some, None, Ok, Err, rules, arith, ap, refl, sym}
 use Rattle.std.specs.Str.{all_ascii_digits}
 use Rattle.std.specs.Str.Parse.{ParsesUnsigned}
@@ -29,7 +29,7 @@ chosen : (t : Bool) (v : ℕ) → t ≡ true → cond t (Some v) None ≡ Some v
 chosen true v e = refl
 chosen false v e = cc
 
--- a word that is a number spells what it is worth
+-- an argument that is a number spells what it is worth
 spelled : (word : List ℕ) → is_number word ≡ true → number_word word ≡ Some (worth word)
 spelled word e = chosen (is_number word) (worth word) e
 

@@ -1,4 +1,4 @@
--- What words tell where clap accepts them.
+-- What arguments tell where clap accepts them.
 use Rattle.std.proofs.Common.{◌≡◌, ◌∙◌, ap, sym, subst, refl, if◌then◌else◌, Bool, true, false, List, [], ◌∷◌, inl, inr, rules}
 use Rattle.std.specs.Prelude.{Option, Some, None, option_map, ok_or, Result, Ok, Err, IfOk, IfSome}
 use Rattle.clap.specs.Walk.{Row, Text, is_empty, rows_of}
@@ -16,7 +16,7 @@ use Rattle.command_words.specs.declared.command.NoCommand.TheVariants.{Form}
 use Rattle.command_words.specs.declared.command.Order.{Order}
 use Rattle.command_words.specs.Words.{is_accepted, program}
 
--- accepted words tell what the rows tell that were read of them
+-- accepted arguments tell what the rows tell that were read of them
 pub told_on : {A : Type 0} (told : List Row → Option A) (accepted : Bool) (rows read : List Row)
     → accepted ≡ true → read ≡ rows → (if accepted then told rows else None) ≡ told read
 told_on told true rows read a e = ap told (sym e)
@@ -40,14 +40,14 @@ pub uncommanded : (o : Option Order) (r : Result Order NoCommand) (whole told : 
 uncommanded None r whole told e h w f = w ∙ sym h
 uncommanded (Some t) r whole told e h w f = absurd (cc)
 
--- words in which no fault is found are accepted
+-- arguments in which no fault is found are accepted
 pub accepted_by : (a : App) (words : List Text)
     → a ≡ program → (is_simple_and_free a ≡ true → fault_of a words ≡ []) → is_accepted words ≡ true
 accepted_by a words e h =
     let at_program : is_simple_and_free program ≡ true → fault_of program words ≡ [] = rw e at h in
     ap is_empty (at_program refl)
 
--- what is found in words is what their rows tell
+-- what is found in arguments is what their rows tell
 pub matched : (a : App) (words : List Text) (m : ArgMatches)
     → a ≡ program → HasMatchesOf a words m → rows_of (found_of m) ≡ matches_of program words
 matched a words m e h =
@@ -59,7 +59,7 @@ some_fault [] e (inl m) f = absurd (f m)
 some_fault [] e (inr m) f = absurd m
 some_fault (k ∷ ks) e h f = search rules
 
--- words in which a fault is found aren't accepted
+-- arguments in which a fault is found aren't accepted
 pub refused_by : (a : App) (words : List Text) (e : Error)
     → a ≡ program → (is_simple_and_free a ≡ true → HasKind (fault_of a words) e) → (kind_of e ≡ OutOfMemory → ⊥)
     → is_accepted words ≡ false

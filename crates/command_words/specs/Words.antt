@@ -1,4 +1,4 @@
--- What the program is told to do by its words.
+-- What the program is told to do by its arguments.
 use Rattle.std.specs.Prelude.{ℕ, ◌+◌, ◌-◌, ◌*◌, ◌^◌, ◌≤◌, ◌&&◌, nat_le, if◌then◌else◌, Bool, true, false, List, [], ◌∷◌, length, codes, Option, Some, None, is_some, option_map, option_and_then}
 use Rattle.std.specs.Str.{all_ascii_digits, bytes_eq}
 use Rattle.clap.specs.Walk.{Row, Rule, first_of, is_empty}
@@ -10,9 +10,9 @@ use Rattle.book_model.specs.calendars.Versions.{IsAlmanacYear}
 use Rattle.command_words.specs.declared.command.Command.{Command}
 use Rattle.command_words.specs.declared.command.Command.TheVariants.{Convert, Check, Upgrade, Almanac, Sample, East}
 
--- ---- the command by which clap reads the words
+-- ---- the command by which clap reads the arguments
 
--- an argument that its place among the words tells
+-- a positional argument
 abbrev pub placed : List ℕ → Bool → Rule
 placed id required = record (new_rule id) { action = Some Set; required = required }
 
@@ -20,7 +20,7 @@ placed id required = record (new_rule id) { action = Some Set; required = requir
 abbrev pub jobs : Rule
 jobs = record (new_rule (codes "jobs")) { long = Some (codes "jobs"); action = Some Set; defaults = codes "1" ∷ [] }
 
--- the command with no argument yet: the words come without the program's name, and --help is no flag
+-- the command with no argument yet: the arguments come without the program's name, and --help is no flag
 abbrev pub bare : App
 bare = on_top (λ s. record s { no_binary_name = true; disable_help_flag = true }) (new_app (codes "calendrica"))
 
@@ -28,7 +28,7 @@ bare = on_top (λ s. record s { no_binary_name = true; disable_help_flag = true 
 abbrev pub program : App
 program = with_rule (with_rule (with_rule (with_rule bare (placed (codes "command") true)) (placed (codes "a") false)) (placed (codes "b") false)) jobs
 
--- clap finds no fault in the words
+-- clap finds no fault in the arguments
 abbrev pub is_accepted : List (List ℕ) → Bool
 is_accepted words = is_empty (fault_of program words)
 
@@ -85,11 +85,11 @@ table name (Some year) None = year_command name year
 table name (Some count) (Some seed) = sample_command name count seed
 table name None (Some seed) = None
 
--- the number of jobs that a word asks for, from 1 to 64
+-- the number of threads that an argument asks for, from 1 to 64
 abbrev pub jobs_in : List ℕ → Option ℕ
 jobs_in word = between 1 64 (number_word word)
 
--- what the values of COMMAND, --jobs, A and B tell, where that of --jobs asks for a number of jobs
+-- what the values of COMMAND, --jobs, A and B tell, where that of --jobs asks for a number of threads
 abbrev pub told_by : Option (List ℕ) → Option (List ℕ) → Option (List ℕ) → Option (List ℕ) → Option Command
 told_by None value a b = None
 told_by (Some name) None a b = None
@@ -99,20 +99,20 @@ told_by (Some name) (Some value) a b = if is_some (jobs_in value) then table nam
 abbrev pub told : List Row → Option Command
 told rows = told_by (first_of (codes "command") rows) (first_of (codes "jobs") rows) (first_of (codes "a") rows) (first_of (codes "b") rows)
 
--- the jobs that the value of --jobs asks for
+-- the threads that the value of --jobs asks for
 abbrev pub jobs_told : Option (List ℕ) → Option ℕ
 jobs_told None = None
 jobs_told (Some value) = jobs_in value
 
--- the jobs that the first value of --jobs that clap's reading found asks for
+-- the threads that the first value of --jobs that clap's reading found asks for
 abbrev pub told_jobs : List Row → Option ℕ
 told_jobs rows = jobs_told (first_of (codes "jobs") rows)
 
--- what the words tell: words that clap accepts, by the table
+-- what the arguments tell: arguments that clap accepts, by the table
 abbrev pub command_of : List (List ℕ) → Option Command
 command_of words = if is_accepted words then told (matches_of program words) else None
 
--- how many jobs the words ask for, where clap accepts them
+-- how many threads the arguments ask for, where clap accepts them
 abbrev pub jobs_of : List (List ℕ) → Option ℕ
 jobs_of words = if is_accepted words then told_jobs (matches_of program words) else None
 

@@ -1,8 +1,8 @@
 //! What the program is told to do.
 
-/// What the program is told to do: to write what lines of dates come to, to check such a text, to write the almanac of a
-/// year, to count what sample lines come to, to upgrade a text of an older version, or to write the months of a year in the
-/// calendars of the east.
+/// What the program is told to do: to write the outcomes of lines of dates, to check a certificate, to write the almanac of
+/// a year, to count the outcomes of a sample's lines, to upgrade a certificate of an older version, or to write the months
+/// of a year in the calendars of the east.
 #[derive(Clone, Copy, Debug, PartialEq, Eq)]
 pub enum Command {
     Convert,
@@ -16,14 +16,14 @@ pub enum Command {
     East { year: u32 },
 }
 
-/// What the program is told to do, and by how many workers, from 1 to 64.
+/// What the program is told to do, and by how many threads, from 1 to 64.
 #[derive(Clone, Copy, Debug, PartialEq, Eq)]
 pub struct Order {
     pub command: Command,
     pub jobs: usize,
 }
 
-/// Why words name no command: they aren't in the form, or memory ran out before they were read.
+/// Why the arguments name no command: they aren't in the form, or memory ran out before they were read.
 #[derive(Clone, Copy, Debug, PartialEq, Eq)]
 pub enum NoCommand {
     Form,

@@ -1,4 +1,4 @@
-//! The reading of the program's words.
+//! The reading of the program's arguments.
 ghost use Rattle.std.specs.Prelude.{◌≡◌, ◌≤◌, IfOk, IfSome, IsErrOf, map, option_map, string_bytes, None, Some, true, false};
 ghost use Rattle.clap.specs.Words.{found_of, kind_of, matches_of, rows_of};
 ghost use Rattle.command_words.specs.Words as spec;
@@ -11,7 +11,7 @@ use clap::error::ErrorKind;
 use clap::{ArgMatches, Error};
 use std::alloc::Global;
 
-/// The command that a word names by itself.
+/// The command that an argument names, with nothing behind it.
 fn lone_command(name: &str) -> Option<Command>
     ensures command { result ≡ spec.lone_command name.now }
 {
@@ -23,7 +23,7 @@ fn lone_command(name: &str) -> Option<Command>
     }
 }
 
-/// A year of which there is an almanac, as a word spells it.
+/// A year of which there is an almanac, as an argument spells it.
 fn almanac_year(word: &str) -> Option<u32>
     ensures year { result ≡ spec.almanac_year word.now }
 {
@@ -35,7 +35,7 @@ fn almanac_year(word: &str) -> Option<u32>
     Some(year as u32)
 }
 
-/// The command that a word names with a year behind it.
+/// The command that an argument names with a year behind it.
 fn year_command(name: &str, year: &str) -> Option<Command>
     ensures command { result ≡ spec.year_command name.now year.now }
 {
@@ -47,7 +47,7 @@ fn year_command(name: &str, year: &str) -> Option<Command>
     }
 }
 
-/// The command that a word names with a count and a seed behind it.
+/// The command that an argument names with a count and a seed behind it.
 fn sample_command(name: &str, count: &str, seed: &str) -> Option<Command>
     ensures command { result ≡ spec.sample_command name.now count.now seed.now }
 {
@@ -62,7 +62,7 @@ fn sample_command(name: &str, count: &str, seed: &str) -> Option<Command>
     })
 }
 
-/// The command that a word names with what stands behind it, by the table.
+/// The command that an argument names with what stands behind it, by the table.
 fn table(name: &str, first: Option<&str>, second: Option<&str>) -> Option<Command>
     ensures command { result ≡ spec.table name.now (option_map (λ s. s.now) first.entry)
         (option_map (λ s. s.now) second.entry) }
@@ -75,8 +75,8 @@ fn table(name: &str, first: Option<&str>, second: Option<&str>) -> Option<Comman
     }
 }
 
-// More jobs than processors are allowed: they even out pieces of unequal work.
-/// How many jobs a word asks for, from 1 to 64.
+// More threads than processors are allowed: they even out chunks of unequal work.
+/// How many threads an argument asks for, from 1 to 64.
 fn jobs_in(word: &str) -> Option<usize>
     ensures jobs { result ≡ spec.jobs_in word.now }
     ensures range { IfSome result (λ n. (1 ≤ n) × (n ≤ 64)) }
@@ -106,7 +106,7 @@ fn order_of_values(
     Some(Order { command, jobs })
 }
 
-/// The order that clap's reading of the words tells.
+/// The order that clap's reading of the arguments tells.
 fn order_of_matches(matches: &ArgMatches) -> Option<Order>
     ensures command { option_map (λ t. t.command) result
         ≡ spec.told (rows_of (found_of matches.now)) }
@@ -121,7 +121,7 @@ fn order_of_matches(matches: &ArgMatches) -> Option<Order>
     order_of_values(name, jobs, first, second)
 }
 
-/// Why clap read no words: memory ran out, or they aren't in the form.
+/// Why clap read no arguments: memory ran out, or they aren't in the form.
 fn reason(error: &Error) -> NoCommand
     ensures memory { result ≡ NoCommand.Form → kind_of error.now ≡ ErrorKind.OutOfMemory → ⊥ }
 {
@@ -131,7 +131,7 @@ fn reason(error: &Error) -> NoCommand
     }
 }
 
-/// What clap finds in the words. `Form` comes where it finds a fault, and `Memory` where memory runs out.
+/// What clap finds in the arguments. `Form` comes where it finds a fault, and `Memory` where memory runs out.
 fn matches_in<'a>(alloc: Global, words: &'a [String]) -> Result<ArgMatches<'a>, NoCommand>
     ensures accepted { IfOk result (λ m. spec.is_accepted (map string_bytes words.entry.now)
         ≡ true) }
@@ -149,11 +149,11 @@ fn matches_in<'a>(alloc: Global, words: &'a [String]) -> Result<ArgMatches<'a>, 
     }
 }
 
-/// The order that the words tell: the command that they name, `convert`, `check`, `almanac YEAR`, `sample COUNT SEED`, `upgrade`
-/// or `east YEAR`, and the jobs of `--jobs N`, 1 to 64, which are 1 where the option isn't given. The words come without the
-/// program's own name.
+/// The order that the arguments tell: the command that they name, `convert`, `check`, `almanac YEAR`, `sample COUNT SEED`,
+/// `upgrade` or `east YEAR`, and the threads of `--jobs N`, 1 to 64, which are 1 where the option isn't given. The arguments
+/// come without the program's own name.
 ///
-/// `Form` comes where the words name no command, and `Memory` where memory ran out before they were read.
+/// `Form` comes where the arguments name no command, and `Memory` where memory ran out before they were read.
 pub fn order_of(alloc: Global, words: &[String]) -> Result<Order, NoCommand>
     ensures command { IfOk result (λ t. spec.command_of (map string_bytes words.now)
         ≡ Some t.command) }

@@ -1,4 +1,4 @@
--- The first sight of the crescent: how many tests it makes.
+-- The first visibility of the crescent: how many tests it makes.
 use Rattle.std.specs.Prelude.{ℕ, ◌+◌, ◌*◌, Bool, ℤ, pos, ◌-ℤ◌, int_le}
 use Rattle.std.proofs.Common.{arith}
 use Rattle.book_model.specs.declared.horizon.Location.{Location}
@@ -78,7 +78,7 @@ sought_few : (p : Location) (s m : ℤ) → AtMost 151 (sought_start_of p s m)
 unfolding sought_start_of
 sought_few p s m = few_if 151 (int_le (pos 4) (s -ℤ m)) _ _ answer_at_most (at_most_bind 151 0 (visible_few p (s -ℤ pos 1)) (λ seen. answer_at_most))
 
--- the first sight from a day on makes 7,942 tests at most
+-- the first visibility from a day on makes 7,942 tests at most
 pub sight_from_few : (p : Location) (s : ℤ) → AtMost (845 + (151 + 46 * 151)) (sight_from_of p s)
 unfolding sight_from_of sight_by_of first_day_from
 sight_from_few p s =

@@ -1,4 +1,4 @@
--- A day of whose last new moon the day is known lies in the years of which there are corrections.
+-- A day of whose last new moon the day is known lies in the years of which ΔT is known.
 use Rattle.std.specs.Prelude.{◌≡◌, ℕ, ℤ, ◌≤◌, ◌≤ℤ◌, Ok}
 use Rattle.std.proofs.Common.{arith}
 use Rattle.std.proofs.lemmas.Int.{ints}

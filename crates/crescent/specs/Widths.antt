@@ -7,7 +7,7 @@ use Rattle.book_model.specs.programs.Widths.{IsAbout, IsMoment, IsDated}
 abbrev pub IsEvening : Interval → Type 0
 IsEvening i = IsMoment (9 * 2 ^ 29) i
 
--- the same, in the years of which there are corrections
+-- the same, in the years of which ΔT is known
 abbrev pub IsDatedEvening : Interval → Type 0
 IsDatedEvening i = IsDated 0 (9 * 2 ^ 29) i
 

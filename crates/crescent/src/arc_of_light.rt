@@ -1,4 +1,4 @@
-//! How far the moon stands from the sun: the arc of light between them, by its cosine.
+//! The arc of light (ARCL), which is the moon's elongation from the sun, by its cosine.
 ghost use Rattle.book_model.specs.programs.Calls.{Holds2, Narrows2};
 ghost use Rattle.std.specs.Prelude.{◌≡◌};
 ghost use Rattle.rise_set.specs.Altitudes.{IsMoonAngle, IsMoonLatitude};

@@ -77,8 +77,8 @@ fn is_high<E: Enclosure>(altitude: E, trail: &mut Trail) -> Result<bool, Fail>
     less_step(least, altitude, Site::Crescent, trail)
 }
 
-// One expression, as the definition is a chain (`and_also`): the first condition that doesn't hold
-// ends it, and no further test is made.
+// One expression, as the definition is a chain (`and_also`): the first condition that doesn't hold ends
+// it, and no further test is made.
 /// The conditions on the arc of light and on the altitude, in order: three tests at most (`bright_few`).
 #[tactic(auto, using(book_model::proofs::Leads::leading), unfolding(book_model::specs::sky::Crescent::is_bright_of, book_model::specs::sky::Crescent::and_also))]
 fn is_bright<E: Enclosure>(arc: E, altitude: E, trail: &mut Trail) -> Result<bool, Fail>
@@ -192,7 +192,7 @@ pub(crate) fn visible_on<E: Enclosure>(
 /// its new moon and before its first quarter, the arc of light between them is from 10.6 to 90 degrees and the moon's altitude
 /// above 4.1. 151 tests at most (`visible_few`): those of dusk, of the phase, the obliquity, the longitude and the latitude of the
 /// moon, and then those of the conditions in this order, at `crescent`, until one doesn't hold. It is void where dusk is, and at
-/// `year` in a year without a correction.
+/// `year` in a year without ΔT.
 pub fn visible<E: Enclosure>(location: &Location, day: i64, trail: &mut Trail) -> Result<bool, Fail>
     requires low { first_fact_day ≤ℤ day }
     ensures leads { Decides (spec.visible_of location.now day) trail.old.count trail.new.count

@@ -53,7 +53,7 @@ fn is_soon(day: i64, new_moon: i64) -> bool
     day - new_moon <= UNSEEN_DAYS
 }
 
-/// The day (R.D.) from which the first sight is sought, by whether the crescent of the last new moon is seen.
+/// The day (R.D.) from which the first visibility is sought, by whether the crescent of the last new moon is seen.
 #[tactic(auto, unfolding(book_model::specs::sky::Crescent::start_by))]
 fn start(new_moon: i64, is_seen: bool) -> i64
     requires near { IsPhaseDay new_moon }
@@ -127,7 +127,7 @@ fn sight_after<E: Enclosure>(
     first_sight(evenings, from, trail)
 }
 
-/// `phasis`, where the courses of the moon and the sun are known over the usual days.
+/// `phasis`, where the linear models of the moon and the sun are known over the usual days.
 #[tactic(auto, using(book_model::proofs::Leads::leading), unfolding(book_model::specs::sky::Crescent::phasis_of))]
 pub fn phasis_by<E: Enclosure>(
     course: &PhaseCourse<E>,
@@ -150,7 +150,7 @@ pub fn phasis_by<E: Enclosure>(
 /// The last day (R.D.) before a day, or the day itself, on whose evening before the crescent was first seen at a location by
 /// Shaukat's criterion (Reingold and Dershowitz, Calendrical Calculations, chapter 14): sought from the day of the last new moon,
 /// or, where its crescent isn't seen yet, from 30 days before that. At most 7,942 tests. It is void at `search` where there is no
-/// such day, and where `phase_day` or `visible` is. Its first and third tests, of the year of the day itself, are never open.
+/// such day, and where `phase_day` or `visible` is. Its first and third tests, of the year of the day itself, are never undecided.
 pub fn phasis<E: Enclosure>(location: &Location, day: i64, trail: &mut Trail) -> Result<i64, Fail>
     requires day { IsFactDay day }
     ensures leads { Decides (spec.phasis_of location.now day) trail.old.count trail.new.count result }
@@ -172,7 +172,7 @@ fn is_late(day: i64, new_moon: i64) -> bool
     SEEN_DAYS <= day - new_moon
 }
 
-/// The day (R.D.) from which the first sight from a day on is sought, by whether the crescent of the last new moon is seen before.
+/// The day (R.D.) from which the first visibility from a day on is sought, by whether the crescent of the last new moon is seen before.
 #[tactic(auto, unfolding(book_model::specs::sky::Nisan::sought_from))]
 fn sought_from(day: i64, new_moon: i64, is_seen: bool) -> i64
     requires day { IsTableDay day }
@@ -237,8 +237,8 @@ fn sight_by<E: Enclosure>(
 // It stands beside the search for the last one, so that Nisan is a formula of crescent and sun.
 /// The first day (R.D.) from a day on with whose evening before a month begins: the crescent is seen then for the first time at a
 /// location, by Shaukat's criterion (Reingold and Dershowitz, Calendrical Calculations, chapter 18). It is sought from 29 days after
-/// the last new moon, or, where the crescent of that may not have been seen yet, from the day; the courses of the moon and the sun are
-/// known over the usual days. At most 7,942 tests. It is void at `search` where there is no such day, and where `phase_day` or
+/// the last new moon, or, where the crescent of that may not have been seen yet, from the day; the linear models of the moon and the
+/// sun are known over the usual days. At most 7,942 tests. It is void at `search` where there is no such day, and where `phase_day` or
 /// `visible` is.
 #[tactic(auto, using(book_model::proofs::Leads::leading), unfolding(book_model::specs::sky::Nisan::sight_from_of))]
 pub fn sight_from_by<E: Enclosure>(

@@ -1,10 +1,11 @@
-//! The first sight of the crescent by Shaukat's criterion: whether it is seen on an evening at a location, and the day with whose
+//! The first visibility of the crescent by Shaukat's criterion: whether it is seen on an evening at a location, and the day with whose
 //! evening it was first seen. Each call makes the tests of its formula.
 //!
 //! - `arc_cosine`: the moon's arc of light;
 //! - `visible`: the criterion, by the moon's phase, its arc of light and its altitude at dusk;
-//! - `phasis`: the search for the day of the first sight; `phasis_by`: the same by courses; `sight_from_by`: the search from a day on;
-//! - `Sunsets`, `sunset`: of `rise_set`, given on to the facts.
+//! - `phasis`: the search for the day of the first visibility; `phasis_by`: the same by linear models; `sight_from_by`: the search
+//!   from a day on;
+//! - `Sunsets`, `sunset`: of `rise_set`, re-exported to the facts.
 #![tactic(auto)]
 
 mod arc_of_light;

@@ -10,7 +10,7 @@ use Rattle.exact_math.proofs.Certificates.{zero_F, ◌≼◌, ◌≗◌, known, 
 abbrev two : Poly
 two = lit (pos 2)
 
--- the ends of a sum whose next term is not negative
+-- the endpoints of a sum whose next term is not negative
 unfoldable pub beneath : (ℕ → Fraction) → ℕ → Fraction
 beneath t n = plus (alternating t n) (opposite (twice (t (suc n))))
 
@@ -139,13 +139,13 @@ atop_falls n p q h =
     (known 2 ⊞ known 3 ⊞ multiple 0 (lit (negsuc 0)) ⊞ multiple 1 (lit (pos 1))) refl
     (atop_step p n, (atop_step q n, (h.first, (beneath_rises n (λ k. p (suc k)) (λ k. q (suc k)) h.rest, tt))))
 
--- the ends are in order, and not negative where the terms halve from the first on
+-- the endpoints are in order, and not negative where the terms halve from the first on
 pub ends_in_order : (n : ℕ) (t : ℕ → Fraction) → zero_F ≤F t (suc n) → beneath t n ≤F atop t n
 unfolding beneath atop
 ends_in_order n t h = le_by (alternating t n ∷ t (suc n) ∷ []) ((lit (pos 0) ≼ at 1) ∷ []) (at 0 ⊖ two ⊗ at 1) (at 0 ⊕ two ⊗ at 1) (natural 4 ⊠ known 0) refl
     (h, tt)
 
--- ---- the same for the ends of a series, whose terms are not negative
+-- ---- the same for the endpoints of a series, whose terms are not negative
 pub sums_nested : (n : ℕ) (t : ℕ → Fraction) → Halving t → (lower t n ≤F lower t (suc n)) × (upper t (suc n) ≤F upper t n)
 sums_nested n t h =
     let k = nested n t h in

@@ -208,8 +208,8 @@ larger_first a b = elim (one_of a b) [ inl w ↦ rw w.is_larger w.in_order | inr
 pub larger_second : (a b : Fraction) → b ≤F larger a b
 larger_second a b = elim (one_of a b) [ inl w ↦ rw w.is_larger (le_refl b) | inr w ↦ rw w.is_larger w.in_order ]
 
--- ---- a product lies between those of the ends
--- where lo ≤ a ≤ hi and a bound z is at most both products of the ends with y, it is at most a's
+-- ---- a product lies between those of the endpoints
+-- where lo ≤ a ≤ hi and a bound z is at most both products of the endpoints with y, it is at most a's
 pub product_above : (z lo a hi y : Fraction) → lo ≤F a → a ≤F hi → z ≤F times lo y → z ≤F times hi y → z ≤F times a y
 product_above z lo a hi y h k p q =
     elim (le_total zero_fraction y) [
@@ -230,7 +230,7 @@ turned_above z a b h = le_trans z (times a b) (times b a) h (times_comm a b)
 pub turned_below : (z a b : Fraction) → times a b ≤F z → times b a ≤F z
 turned_below z a b h = le_trans (times b a) (times a b) z (times_comm b a) h
 
--- z is at most the four products of the ends, and so at most each product of members
+-- z is at most the four products of the endpoints, and so at most each product of members
 pub four_above : (z a b c d x y : Fraction) → a ≤F x → x ≤F b → c ≤F y → y ≤F d → z ≤F times a c → z ≤F times a d → z ≤F times b c → z ≤F times b d
     → z ≤F times x y
 four_above z a b c d x y ax xb cy yd ac ad bc bd =

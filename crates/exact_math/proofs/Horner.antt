@@ -1,4 +1,4 @@
--- The ends of a series in Horner's form over its terms, from the inside out.
+-- The endpoints of a series in Horner's form over its terms, from the inside out.
 use Rattle.std.proofs.Common.{ℕ, zero, suc, refl, pos, negsuc, [], ◌∷◌}
 use Rattle.exact_math.proofs.Ring.{Poly, at, lit, ◌⊕◌, ◌⊖◌, ◌⊗◌, minus}
 use Rattle.exact_math.specs.Fraction.{Fraction, ◌≈◌, whole, plus, opposite, times}

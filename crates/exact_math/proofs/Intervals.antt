@@ -96,7 +96,7 @@ sum_ends (between a b) (between a' b') (between c d) (between c' d') h k = (plus
 pub sum_within : {i i' j j' : Interval} → i ⊆ i' → j ⊆ j' → sum i j ⊆ sum i' j'
 sum_within {i} {i'} {j} {j'} h k = record { ends = sum_ends i i' j j' h.ends k.ends }
 
--- the ends of a proper interval within another are members of that
+-- the endpoints of a proper interval within another are members of that
 ends_within : (a b c d : Fraction) → a ≤F b → AreWithin (between a b) (between c d) → IsMember a (between c d) × IsMember b (between c d)
 ends_within a b c d p h = ((h.0, le_trans a b d p h.1), (le_trans c a b h.0 p, h.1))
 
@@ -121,7 +121,7 @@ pub product_within : {i i' j j' : Interval} → IsProper i → IsProper j → i 
 product_within {i} {i'} {j} {j'} p q h k = record { ends = product_ends i i' j j' p q h.ends k.ends }
 
 -- ---- the other operations
--- an operation's ends, where both operands are bounded
+-- an operation's endpoints, where both operands are bounded
 negative_ends : (i i' : Interval) → AreWithin i i' → AreWithin (negative i) (negative i')
 unfolding negative
 negative_ends i everything h = tt

@@ -7,7 +7,7 @@ pub data Interval : Type 0 where
   everything : Interval
   between : Fraction → Fraction → Interval
 
--- the lower end is not above the upper
+-- the lower endpoint is not above the upper
 abbrev pub IsProper : Interval → Type 0
 IsProper everything = Unit {0}
 IsProper (between lo hi) = lo ≤F hi
@@ -80,7 +80,7 @@ widen e (between a b) = between (plus a (opposite (size e))) (plus b (size e))
 abbrev pub zero_fraction : Fraction
 zero_fraction = record { num = pos 0; below = 0 }
 
--- both ends of c..d are on one side of 0
+-- both endpoints of c..d are on one side of 0
 abbrev pub excludes_zero : Fraction → Fraction → Bool
 excludes_zero c d = cond (lt_z (pos 0) c.num) true (lt_z d.num (pos 0))
 

@@ -1,4 +1,4 @@
--- Alternating sums of fractions, and their ends: what a series is known to lie between.
+-- Alternating sums of fractions, and their endpoints: what a series is known to lie between.
 use Rattle.std.specs.Prelude.{ℕ, zero, suc, pos}
 use Rattle.exact_math.specs.Fraction.{Fraction, plus, opposite, times, size}
 

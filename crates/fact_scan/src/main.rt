@@ -1,6 +1,6 @@
-//! Which facts enclosures leave open. It reads lines `KIND PLACE DAY`, and writes for each, behind the line's own words, what the
-//! formula comes to over coarse enclosures and over fine ones, and how many tests were made over these: a value, or `void SITE`, or
-//! `open SITE TURN LO HI` where a test stays open. A line that names no fact is `none`.
+//! Which facts enclosures leave undecided. It reads lines `KIND PLACE DAY`, and writes for each, behind the line's own words, the
+//! result of the formula over coarse enclosures and over fine ones, and how many tests were made over these: a value, or `void
+//! SITE`, or `open SITE TURN LO HI` where a test stays undecided. A line that names no fact is `none`.
 #![tactic(auto)]
 
 use book_model::{Fact, Fail, Kind, Place};
@@ -19,7 +19,7 @@ fn fact_of(line: &str) -> Option<Fact> {
     Fact::new(kind, place, day)
 }
 
-/// What a formula came to, as it is written.
+/// The result of a formula, as it is written.
 fn text_of(alloc: Global, end: Result<i64, Fail>) -> Result<String, AllocError> {
     match end {
         Ok(value) => format!(in alloc; "{value}"),

@@ -1,4 +1,4 @@
--- A cell outside 64 bits leaves the test open.
+-- A cell outside 64 bits leaves the test undecided.
 use Rattle.std.proofs.Common.{◌≡◌, sym, ℤ}
 use Rattle.std.specs.Prelude.{FitsSigned, Some}
 use Rattle.std.specs.Int.{w64}

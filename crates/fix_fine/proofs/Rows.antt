@@ -1,4 +1,4 @@
--- The table of widths, from the ends that the operations give.
+-- The table of widths, from the endpoints that the operations give.
 use Rattle.std.proofs.Common.{◌≡◌, ℕ, suc, ◌*◌, ◌^◌, ◌≤◌, ◌<◌, ◌+◌, arith, refl, Bool, true, max, unsigned_abs, ℤ, pos, ◌+ℤ◌, ◌*ℤ◌, ◌-ℤ◌, ◌≤ℤ◌, ◌⊎◌, inl, inr, SFits, [], ◌∷◌, Option, Some, None}
 use Rattle.std.specs.Prelude.{neg_ℤ, nat_lt, IfSome, IsSome, ◌-◌, ◌/◌, ◌&&◌}
 use Rattle.std.specs.Int.{w64, w128, int_min, int_max}
@@ -27,16 +27,16 @@ use Rattle.interval_products.specs.Room.{HaveProducts, HaveFineQuotients, HaveQu
 use Rattle.interval_products.specs.Close.{IsCloseProduct, IsCloseSquare, IsCloseQuotient, IsCloseRoot, OfOne, OfTwo, ThereOfOne, ThereOfTwo}
 use Rattle.fix_fine.specs.Table.{IsKnown, width_of, size_of, IsIntegerRow, IsFractionRow, IsSumRow, IsMovedRow, IsCutRow, IsChoiceRow, IsHullRow, IsProductRow, IsFactorRow, IsSquareRow, IsLeastSize, IsQuotientRow, IsRootRow, IsWidenedRow}
 
--- the interval of two ends
+-- the interval of two endpoints
 abbrev pub ends : ℤ → ℤ → Interval
 ends x y = between (at_scale fine x) (at_scale fine y)
 
--- ends that fit are known
+-- endpoints that fit are known
 shown_known : (lo hi : ℤ) (i : Interval) → ShowsEnds fine lo hi i → SFits w128 lo → SFits w128 hi → IsKnown i
 shown_known lo hi (between a b) h f g = tt
 shown_known lo hi everything (too_large n) f g = absurd (n f g)
 
--- what holds of the ends' distance holds of the width
+-- what holds of the endpoints' distance holds of the width
 shown_wide : (lo hi : ℤ) (i : Interval) → ShowsEnds fine lo hi i → IsKnown i → width_of i ≡ hi -ℤ lo
 shown_wide lo hi (between a b) fitting k = refl
 shown_wide lo hi everything h k = absurd k
@@ -139,7 +139,7 @@ quotients_fit x y c d m o r z (inr l) s t =
       ),
     )
 
--- ---- as ends of 128 bits
+-- ---- as endpoints of 128 bits
 abbrev pub FineEnds : Type 0
 FineEnds = Ends ℤ ghosts
 
@@ -159,7 +159,7 @@ pub opposite_of_ends : (x r : Option FineEnds) → IfSome x (λ p. HasEnds (pos 
 opposite_of_ends None r h = moved_row_all (shown_ends r)
 opposite_of_ends (Some p) r h = opposite_row p.lo p.hi _ _ (shown_ends r) refl refl (shows _ _ r h)
 
--- ---- products, squares, quotients and roots, by what their operations say of the ends
+-- ---- products, squares, quotients and roots, by what their operations say of the endpoints
 pub product_of_ends : (x y r : Option FineEnds) → OfTwo (IsCloseProduct fine) x y r → ThereOfTwo (HaveProducts fine) x y r
     → IsProductRow (shown_ends x) (shown_ends y) (shown_ends r)
 product_of_ends None y r c s = record { known = λ p q l. absurd p; wide = λ p q k. absurd p }
@@ -195,7 +195,7 @@ root_of_ends None r c s = record { known = λ p l. absurd p; wide = λ p k. absu
 root_of_ends (Some p) (Some e) c s = record { known = λ a l. tt; wide = λ a k. c }
 root_of_ends (Some p) None c s = record { known = λ a l. let z = s refl (omega (arith, ints, l)) in absurd (cc); wide = λ a k. absurd k }
 
--- ---- by the bounds that just these ends keep
+-- ---- by the bounds that just these endpoints keep
 abbrev bound_of_ends : ℤ → ℤ → Bound
 bound_of_ends x y = bounded (floor_quotient x (2 ^ 24 - 1)) (neg_ℤ (floor_quotient (neg_ℤ y) (2 ^ 24 - 1))) 0 (unsigned_abs (y -ℤ x) * 2 ^ 8)
 

@@ -7,6 +7,6 @@ use Rattle.interval_ends.specs.Shown.{shown_ends, ends_proper}
 abbrev pub shown_fine : Fine → Interval
 shown_fine x = shown_ends x.ends
 
--- its ends are in order
+-- its endpoints are in order
 pub fine_proper : (x : Fine) → IsProper (shown_fine x)
 fine_proper x = ends_proper x.ends

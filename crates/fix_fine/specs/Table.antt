@@ -1,4 +1,4 @@
--- The widths of fine enclosures, one row for each operation. Ends, sizes and widths count 2^-56.
+-- The widths of fine enclosures, one row for each operation. Endpoints, sizes and widths are in units of 2^-56.
 use Rattle.std.specs.Prelude.{◌≡◌, ℕ, pos, max, unsigned_abs, ◌+◌, ◌*◌, ◌^◌, ◌<◌, ℤ, ◌+ℤ◌, ◌-ℤ◌, ◌*ℤ◌, ◌≤ℤ◌, ◌<ℤ◌, ◌⊎◌}
 use Rattle.std.specs.Int.{int_min, int_max}
 use Rattle.book_model.specs.Fraction.{Fraction}
@@ -9,7 +9,7 @@ abbrev pub IsKnown : Interval → Type 0
 IsKnown everything = ⊥
 IsKnown (between a b) = Unit {0}
 
--- the ends
+-- the endpoints
 abbrev pub low_of : Interval → ℤ
 low_of everything = pos 0
 low_of (between a b) = a.num
@@ -22,7 +22,7 @@ high_of (between a b) = b.num
 abbrev pub width_of : Interval → ℤ
 width_of i = high_of i -ℤ low_of i
 
--- the greatest size of the ends
+-- the greatest size of the endpoints
 abbrev pub size_of : Interval → ℕ
 size_of i = max (unsigned_abs (low_of i)) (unsigned_abs (high_of i))
 
@@ -56,7 +56,7 @@ pub record IsChoiceRow (x y r : Interval) : Type 0 where
   pub known : IsKnown x → IsKnown y → IsKnown r
   pub wide : IsKnown x → IsKnown y → width_of r ≤ℤ int_max (width_of x) (width_of y)
 
--- the hull: from the least lower to the greatest upper end
+-- the hull: from the least lower to the greatest upper endpoint
 pub record IsHullRow (x y r : Interval) : Type 0 where
   pub known : IsKnown x → IsKnown y → IsKnown r
   pub low : IsKnown x → IsKnown y → low_of r ≡ int_min (low_of x) (low_of y)
@@ -77,7 +77,7 @@ pub record IsSquareRow (x r : Interval) : Type 0 where
   pub known : IsKnown x → size_of x < 2 ^ 63 → IsKnown r
   pub wide : IsKnown x → IsKnown r → ((width_of r -ℤ pos 2) *ℤ pos (2 ^ 56)) ≤ℤ (pos 2 *ℤ (pos (size_of x) *ℤ width_of x))
 
--- m is at most the size of each number between the ends, which are both above 0, or both below
+-- m is at most the size of each number between the endpoints, which are both above 0, or both below
 abbrev pub IsLeastSize : ℤ → Interval → Type 0
 IsLeastSize m i = (m ≤ℤ low_of i) ⊎ (high_of i ≤ℤ (pos 0 -ℤ m))
 
@@ -88,8 +88,8 @@ pub record IsQuotientRow (x y r : Interval) : Type 0 where
   pub wide : IsKnown x → IsKnown y → IsKnown r → (m : ℕ) → 0 < m → IsLeastSize (pos m) y
       → ((width_of r -ℤ pos 2) *ℤ (pos m *ℤ pos m)) ≤ℤ (pos (2 ^ 56) *ℤ (width_of x *ℤ pos m) +ℤ pos (2 ^ 56) *ℤ (pos (size_of x) *ℤ width_of y))
 
--- roots of numbers below 2^14 in size: where the lower end is above 0, the width over twice its root, and two units. Both sides
--- are squared, of what the width is above two units.
+-- roots of numbers below 2^14 in size: where the lower endpoint is above 0, the width over twice its root, and two units. Both
+-- sides are squared, of what the width is above two units.
 pub record IsRootRow (x r : Interval) : Type 0 where
   pub known : IsKnown x → size_of x < 2 ^ 70 → IsKnown r
   pub wide : IsKnown x → IsKnown r → pos 0 <ℤ low_of x → (e : ℕ) → width_of r ≡ pos 2 +ℤ pos e → (pos 4 *ℤ ((pos e *ℤ pos e) *ℤ low_of x))

@@ -1,4 +1,4 @@
-//! Enclosures by ends in 128 bits, which count 2⁻⁵⁶.
+//! Enclosures by endpoints of 128 bits in units of 2⁻⁵⁶.
 ghost use Rattle.book_model.specs.programs.Calls.{Encloses, Encloses1, Encloses2};
 ghost use Rattle.std.specs.Prelude.{refl, ◌≡◌, ◌<◌, ℤ, Some, IfOk, IfErr, IsSome};
 ghost use Rattle.book_model.specs.Interval.{◌⊆◌, hull as hull_of_intervals};
@@ -21,7 +21,7 @@ use interval_ends::{
 };
 use interval_products::{div_ends, mul_ends, root_ends, square_ends};
 
-/// An enclosure by two ends in 128 bits that count 2⁻⁵⁶, rounded outwards; every number, where a number doesn't fit.
+/// An enclosure by two endpoints of 128 bits in units of 2⁻⁵⁶, rounded outwards; every number, where a number doesn't fit.
 #[derive(Clone, Copy, Debug, PartialEq)]
 pub struct Fine {
     pub(crate) ends: Option<Ends<i128>>,
@@ -206,8 +206,8 @@ impl Enclosure for Fine {
         match cell_of_ends(self.ends) {
             Some(cell) => match i64::try_from(cell) {
                 Ok(cell) => Ok(cell),
-                // A whole number of days or turns outside 64 bits has no place in a line: an open
-                // test, with the ends of 128 bits.
+                // A floor outside 64 bits has no place in a line: its test is undecided, and its bounds are those of an
+                // unbounded test.
                 Err(_) => Err(open_at::<i128>(None, site, turn)),
             },
             None => Err(open_at(self.ends, site, turn)),

@@ -84,7 +84,7 @@ fn date_from_number(year: i64, over: i64) -> FrenchDate
     FrenchDate {
         year: to_32_bits(year),
         month: month_after(over),
-        // What is left of days by 30 always fits. An added day in a common year, as 4-13-6, names
+        // The remainder of days by 30 always fits. An added day in a common year, as 4-13-6, names
         // the first of the next year, and so is refused as no date of its day.
         day: day_after(over),
     }
@@ -110,8 +110,8 @@ fn date_from_facts(first: i64, day: i64) -> FrenchDate
 }
 
 /// The date of a day (R.D.): the year that begins on the first day which the oracle has for the day, and by the days since then months
-/// of 30 days. A month that its type doesn't hold stands at the nearest end; year and day always fit. It stops where the oracle stops,
-/// at the one fact that is asked (Reingold and Dershowitz, Calendrical Calculations, chapter 17).
+/// of 30 days. A month that its type doesn't hold is clamped to the nearest bound; year and day always fit. It returns early where the
+/// oracle does, at the one fact that is asked (Reingold and Dershowitz, Calendrical Calculations, chapter 17).
 ///
 /// ```
 /// let evaluator = Staged::new();
@@ -139,8 +139,8 @@ fn day_by(first: i64, month: i64, day: i64) -> i64
 }
 
 /// The day (R.D.) of a date: the first day of the year which the oracle has, asked of a day about the year's middle, the days of the
-/// months before, and the day of the month. The date needn't be one that the calendar has. It stops where the oracle stops, at the
-/// one fact that is asked (Reingold and Dershowitz, Calendrical Calculations, chapter 17).
+/// months before, and the day of the month. The date needn't be one that the calendar has. It returns early where the oracle does,
+/// at the one fact that is asked (Reingold and Dershowitz, Calendrical Calculations, chapter 17).
 ///
 /// ```
 /// let evaluator = Staged::new();

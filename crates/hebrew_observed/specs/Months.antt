@@ -13,7 +13,7 @@ IsCalendarYear year = (pos 2 ≤ℤ year) × (year ≤ℤ pos 2738)
 abbrev pub IsStretch : ℤ → Type 0
 IsStretch days = (negsuc 19999999 ≤ℤ days) × (days ≤ℤ pos 20000000)
 
--- the months that such a stretch has
+-- the months that such an interval has
 abbrev pub IsNearMonth : ℤ → Type 0
 IsNearMonth months = (negsuc 999999 ≤ℤ months) × (months ≤ℤ pos 1000000)
 

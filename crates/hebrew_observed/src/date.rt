@@ -25,7 +25,7 @@ pub struct HebrewDate {
     pub day: u8,
 }
 
-/// What the number of the year is ahead of that of the Gregorian year in which Nisan came last, in a month.
+/// How much the number of the Hebrew year, in a month, exceeds that of the Gregorian year in which Nisan came last.
 fn years_ahead(month: i64) -> i64
     ensures ahead { result ≡ spec.years_ahead month }
     ensures from { pos 3760 ≤ℤ result }
@@ -82,7 +82,7 @@ fn date_by(day: i64, first: i64, nisan_year: i64, nisan: i64) -> HebrewDate
     date_from_month(nisan_year, month, day_of_month(day, first))
 }
 
-/// The same by the Gregorian year in which Nisan came last: the first of Nisan there is asked. It stops where the oracle stops.
+/// The same by the Gregorian year in which Nisan came last: the first of Nisan there is asked. It returns early where the oracle does.
 fn date_in_year<O: Oracle>(
     oracle: &mut O,
     day: i64,
@@ -100,7 +100,7 @@ fn date_in_year<O: Oracle>(
 }
 
 /// The same by the first day of Nisan in the Gregorian year of the day: where the day comes before it, the first of Nisan of the year
-/// before is asked. It stops where the oracle stops.
+/// before is asked. It returns early where the oracle does.
 #[tactic(auto, using(oracle_core::proofs::Inquiring::asking), unfolding(book_model::specs::calendars::HebrewObserved::hebrew_since))]
 fn date_since<O: Oracle>(
     oracle: &mut O,
@@ -135,9 +135,9 @@ fn gregorian_year(day: i64) -> i64
 
 /// The date of a day (R.D.): the month that begins on the first day which the oracle has for the day, counted from the first of Nisan
 /// that the oracle has for the Gregorian year, or, where the day comes before that, for the year before. A month and a day that their
-/// types don't hold stand at the nearest ends; the year always fits. It stops where the oracle stops, at one of the two or three
-/// facts that are asked (Reingold and Dershowitz, Calendrical Calculations, chapter 18; the number of the year is counted by this
-/// project).
+/// types don't hold are clamped to the nearest bounds; the year always fits. It returns early where the oracle does, at one of the
+/// two or three facts that are asked (Reingold and Dershowitz, Calendrical Calculations, chapter 18; the number of the year is
+/// counted by this project).
 ///
 /// ```
 /// let evaluator = Staged::new();
@@ -176,8 +176,8 @@ fn day_by(first: i64, day: i64) -> i64
 }
 
 /// The day (R.D.) of a date: the first day of the month which the oracle has, asked of a day about the month's middle, which is counted
-/// from the first of Nisan that the oracle has, and the day of the month. The date needn't be one that the calendar has. It stops
-/// where the oracle stops, at one of the two facts that are asked (Reingold and Dershowitz, Calendrical Calculations, chapter 18).
+/// from the first of Nisan that the oracle has, and the day of the month. The date needn't be one that the calendar has. It returns
+/// early where the oracle does, at one of the two facts that are asked (Reingold and Dershowitz, Calendrical Calculations, chapter 18).
 ///
 /// ```
 /// let evaluator = Staged::new();

@@ -13,7 +13,7 @@ IsDatedDay day = (negsuc 29999000 ≤ℤ day) × (day ≤ℤ pos 29999000)
 abbrev pub IsSearchedDay : ℤ → Type 0
 IsSearchedDay day = (negsuc 29998899 ≤ℤ day) × (day ≤ℤ pos 29998900)
 
--- the years and months from which days by the mean sun are reckoned
+-- the years and months from which days by the mean sun are counted
 abbrev pub IsSunMonth : (year month : ℤ) → Type 0
 IsSunMonth year month = (negsuc 9998 ≤ℤ year) × (year ≤ℤ pos 9999) × (pos 1 ≤ℤ month) × (month ≤ℤ pos 12)
 

@@ -134,8 +134,8 @@ fn date_from_facts<O: Oracle>(oracle: &mut O, day: i64) -> Result<HinduLunar, St
 
 /// The date of a day (R.D.): its month has the number of the sign that the sun enters in it, and is an added one where it enters
 /// none; its day is the tithi at sunrise, and a leap day where the day before has the same. A day or a year that its type doesn't
-/// hold stands at the nearest end; the other fields always fit. It stops where the oracle stops, at one of the five facts that are
-/// asked (Reingold and Dershowitz, Calendrical Calculations, chapter 20).
+/// hold is clamped to the nearest bound; the other fields always fit. It returns early where the oracle does, at one of the five
+/// facts that are asked (Reingold and Dershowitz, Calendrical Calculations, chapter 20).
 ///
 /// ```
 /// let evaluator = Staged::new();
@@ -167,7 +167,7 @@ fn is_sought_date(sought: HinduLunar, date: HinduLunar) -> bool
     is_of_month(sought, date) && date.day == sought.day && date.leap_day == sought.leap_day
 }
 
-/// Whether a day lies in the month of a date. It stops where the oracle stops.
+/// Whether a day lies in the month of a date. It returns early where the oracle does.
 fn lies_in_month<O: Oracle>(oracle: &mut O, sought: HinduLunar, day: i64) -> Result<bool, Stop>
     requires day { IsDatedDay day }
     ensures lies { Asks O.Oracle (spec.lies_in_month (fields_of_lunar sought) day)
@@ -177,7 +177,7 @@ fn lies_in_month<O: Oracle>(oracle: &mut O, sought: HinduLunar, day: i64) -> Res
     Ok(is_of_month(sought, date))
 }
 
-/// Whether a day has a date. It stops where the oracle stops.
+/// Whether a day has a date. It returns early where the oracle does.
 fn has_date<O: Oracle>(oracle: &mut O, sought: HinduLunar, day: i64) -> Result<bool, Stop>
     requires day { IsDatedDay day }
     ensures has { Asks O.Oracle (spec.has_date (fields_of_lunar sought) day)
@@ -187,7 +187,7 @@ fn has_date<O: Oracle>(oracle: &mut O, sought: HinduLunar, day: i64) -> Result<b
     Ok(is_sought_date(sought, date))
 }
 
-/// Whether a day is one that is sought. It stops where the oracle stops.
+/// Whether a day is one that is sought. It returns early where the oracle does.
 #[tactic(auto, using(oracle_core::proofs::Inquiring::asking), unfolding(crate::specs::Searches::inquiry_of))]
 fn is_sought<O: Oracle>(oracle: &mut O, search: Search, day: i64) -> Result<bool, Stop>
     requires day { IsDatedDay day }
@@ -201,7 +201,7 @@ fn is_sought<O: Oracle>(oracle: &mut O, search: Search, day: i64) -> Result<bool
 
 // The two searches of the rule are uses of one, here and in the definition: the days that are
 // looked at, and an inquiry of each.
-/// The first of some days about one that is sought, else that one. It stops where the oracle stops.
+/// The first of some days about one that is sought, else that one. It returns early where the oracle does.
 #[tactic(auto, using(oracle_core::proofs::Inquiring::asking), unfolding(book_model::specs::calendars::Inquiries::first_of))]
 fn first_of<O: Oracle>(
     oracle: &mut O,
@@ -246,7 +246,7 @@ fn day_candidates(day: i64) -> [i64; 5]
 }
 
 /// About the middle of a month: the first of a day, that 30 days before and that 30 days after it that lies in the month, else the
-/// day. It stops where the oracle stops.
+/// day. It returns early where the oracle does.
 #[tactic(auto, using(oracle_core::proofs::Inquiring::asking), unfolding(book_model::specs::calendars::HinduLunar::middle_about, crate::specs::Searches::inquiry_of))]
 fn middle_about<O: Oracle>(oracle: &mut O, sought: HinduLunar, day: i64) -> Result<i64, Stop>
     requires low { negsuc 16999999 ≤ℤ day }
@@ -259,8 +259,8 @@ fn middle_about<O: Oracle>(oracle: &mut O, sought: HinduLunar, day: i64) -> Resu
     first_of(oracle, &days, Search::Month(sought), day)
 }
 
-/// The first of a day, the two before and the two after it, in order, that has a date, else the day. It stops where the oracle
-/// stops.
+/// The first of a day, the two before and the two after it, in order, that has a date, else the day. It returns early where the
+/// oracle does.
 #[tactic(auto, using(oracle_core::proofs::Inquiring::asking), unfolding(book_model::specs::calendars::HinduLunar::day_about, crate::specs::Searches::inquiry_of))]
 fn day_about<O: Oracle>(oracle: &mut O, sought: HinduLunar, day: i64) -> Result<i64, Stop>
     requires day { IsSearchedDay day }
@@ -306,7 +306,7 @@ fn day_by_tithi(middle: i64, tithi: i64, day: u8) -> i64
     middle - tithi + i64::from(day)
 }
 
-/// The day of a date by the middle of its month, whose tithi leads to it or near it. It stops where the oracle stops.
+/// The day of a date by the middle of its month, whose tithi leads to it or near it. It returns early where the oracle does.
 fn day_by_middle<O: Oracle>(oracle: &mut O, sought: HinduLunar, middle: i64) -> Result<i64, Stop>
     requires low { negsuc 17000999 ≤ℤ middle }
     requires high { middle ≤ℤ pos 17001100 }
@@ -317,8 +317,8 @@ fn day_by_middle<O: Oracle>(oracle: &mut O, sought: HinduLunar, middle: i64) -> 
     day_about(oracle, sought, day_by_tithi(middle, tithi, sought.day))
 }
 
-/// The day of a date by a day about the middle of its month, whose tithi leads to the middle of a month. It stops where the oracle
-/// stops.
+/// The day of a date by a day about the middle of its month, whose tithi leads to the middle of a month. It returns early where
+/// the oracle does.
 fn day_by_month<O: Oracle>(oracle: &mut O, sought: HinduLunar, day: i64) -> Result<i64, Stop>
     requires low { negsuc 6999999 ≤ℤ day }
     requires high { day ≤ℤ pos 6999999 }
@@ -332,8 +332,8 @@ fn day_by_month<O: Oracle>(oracle: &mut O, sought: HinduLunar, day: i64) -> Resu
 
 /// The day (R.D.) of a date, by a rule of this project's own: from a day about the middle of the month by the mean sun its tithi
 /// leads to the month's middle, or to that of the month before or after, and the tithi there to the day, of which two days before
-/// and two after are looked at too. The date needn't be one that the calendar has. It stops where the oracle stops, at one of the
-/// facts that the rules ask.
+/// and two after are looked at too. The date needn't be one that the calendar has. It returns early where the oracle does, at one
+/// of the facts that the rules ask.
 ///
 /// ```
 /// let evaluator = Staged::new();

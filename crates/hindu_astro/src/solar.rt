@@ -58,8 +58,8 @@ fn date_from_facts(day: i64, sign: i64, year: i64, first: i64) -> HinduSolar
 }
 
 /// The date of a day (R.D.): its month is the sign in which the sun stands at sunset, and its day counts from the one on which the
-/// sun came into it. A field that its type doesn't hold stands at the nearest end. It stops where the oracle stops, at one of the
-/// three facts that are asked (Reingold and Dershowitz, Calendrical Calculations, chapter 20).
+/// sun came into it. A field that its type doesn't hold is clamped to the nearest bound. It returns early where the oracle does, at
+/// one of the three facts that are asked (Reingold and Dershowitz, Calendrical Calculations, chapter 20).
 ///
 /// ```
 /// let evaluator = Staged::new();
@@ -98,7 +98,7 @@ fn day_by(first: i64, day: i64) -> i64
 }
 
 /// The day (R.D.) of a date: the first day of the month in which a day late in it falls, and the day of the month; a rule of this
-/// project's own. The date needn't be one that the calendar has. It stops where the oracle stops, at the one fact that is asked.
+/// project's own. The date needn't be one that the calendar has. It returns early where the oracle does, at the one fact that is asked.
 ///
 /// ```
 /// let evaluator = Staged::new();

@@ -18,7 +18,7 @@ use Rattle.rise_set.specs.declared.hindu.TheConstants.{FIRST_HINDU_DAY}
 use Rattle.encl_core.proofs.Measuring.{measured, sloped, looser}
 use Rattle.book_model.specs.declared.time_tables.TheConstants.{RECENT_START, TABLE_END}
 
--- ---- parts of a turn
+-- ---- fractions of a turn
 abbrev turn_bounds : ℕ → Bound
 turn_bounds k = bounded (pos 0) (pos (360 * 2 ^ 32)) (2 ^ 40) 0
 

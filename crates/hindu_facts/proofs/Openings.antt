@@ -1,4 +1,4 @@
--- Which failures are at the year: an open rounding is none, and a year that is open of a whole day there isn't.
+-- Which failures are at the year: an undecided rounding is none, and a year that is undecided of a whole day there isn't.
 use Rattle.std.specs.Prelude.{ℕ, ◌≤◌, ℤ, Result, Ok, Err, IfErr}
 use Rattle.book_model.specs.Interval.{Interval}
 use Rattle.book_model.specs.declared.fail.Fail.{Fail}
@@ -13,7 +13,7 @@ use Rattle.time_scales.specs.Steps.{IsNoEarlyYear, IsYearOpenFor}
 use Rattle.time_scales.proofs.WholeDays.{no_early_year}
 use Rattle.moon_core.proofs.SunOpenings.{open_is_early}
 
--- an open rounding isn't of the year
+-- an undecided rounding isn't of the year
 pub round_elsewhere : {T : Type 0} (i j : Interval) (r : Result T Fail) → IfErr r (IsOpenFloor i Round) → IfErr r (IsYearOpenFor j)
 round_elsewhere i j (Ok v) h = h
 round_elsewhere i j (Err (undecided_at u)) h = λ e. let s = h.1 in absurd (cc)
@@ -21,7 +21,7 @@ round_elsewhere i j (Err (Void s)) h = absurd h
 
 pub ruleset opening = (round_elsewhere)
 
--- a year that is open of a whole day is none
+-- a year that is undecided of a whole day is none
 pub whole_day_year : {E T : Type 0} (shown : E → Interval) (bits : ℕ) (d : ℤ) (e : E) (r : Result T Fail) → 36 ≤ bits → bits ≤ 56 → IsValueDay d
     → ((k : Reach) → Narrow shown (limits_of bits) k (integer d) e)
     → IfErr r (IsYearOpenFor (shown e)) → IfErr r IsNoEarlyYear

@@ -39,7 +39,7 @@ fn sign_on<E: Enclosure>(
 
 /// The sign of the zodiac, from 1 to 12, in which the sun stands at sunset on a day (R.D.) at Ujjain (Reingold and Dershowitz,
 /// Calendrical Calculations, chapter 20): 137 tests at most (`sign_at_few`). It is void at `year` where a moment that it takes lies
-/// in a year of which there is no correction, at `offset` where the sun doesn't come to the horizon, and at `settle` where twelve
+/// in a year of which ΔT is not known, at `offset` where the sun doesn't reach the horizon, and at `settle` where twelve
 /// approximations of sunset don't settle.
 ///
 /// ```
@@ -209,11 +209,11 @@ fn lunar_days_passed<E: Enclosure>(t: E, trail: &mut Trail) -> Result<i64, Fail>
     floor_step(degrees.mul_frac(DEGREE_IN_LUNAR_DAYS), Site::Round, trail)
 }
 
-// Sunrise is computed for each fact that asks it, three for one lunar date. To keep it from fact to
-// fact would need a place that threads set, as the shelf has for answers.
+// Sunrise is computed for each fact that asks it, three for one lunar date. To cache it from fact to fact would need a cell that
+// threads share, as the shelf has for answers.
 /// The lunar day, from 1 on, at sunrise on a day (R.D.) at Ujjain (Reingold and Dershowitz, Calendrical Calculations, chapter 20):
-/// 144 tests at most (`tithi_few`). It is void at `year` where a moment that it takes lies in a year of which there is no
-/// correction, at `offset` where the sun doesn't come to the depression of sunrise, and at `settle` where twelve approximations of
+/// 144 tests at most (`tithi_few`). It is void at `year` where a moment that it takes lies in a year of which ΔT is not
+/// known, at `offset` where the sun doesn't reach the depression of sunrise, and at `settle` where twelve approximations of
 /// dawn don't settle.
 ///
 /// ```
@@ -277,7 +277,7 @@ pub fn sign_after<E: Enclosure>(
 }
 
 /// The year of the Kali Yuga when a day (R.D.) begins in universal time (Reingold and Dershowitz, Calendrical Calculations,
-/// chapter 20): five tests, of which the two of the year are never open. It is void at `year` where there is no correction
+/// chapter 20): five tests, of which the two of the year are never undecided. It is void at `year` where there is no ΔT
 /// for the year of the day.
 ///
 /// ```

@@ -4,10 +4,10 @@
 //! - `sign_at_sunset`, `solar_year`, `sankranti`: of the solar calendar;
 //! - `tithi`, `sign_before`, `sign_after`, `calendar_year`: of the lunar one.
 //!
-//! Four take a course of the sun, or of the moon and the sun: of a stretch that holds the moments that they ask, or of all days
-//! (`SunCourse::always`, `PhaseCourse::usual`).
+//! Four take a linear model of the sun, or of the moon and the sun: of an interval that holds the moments that they ask, or of all
+//! days (`SunCourse::always`, `PhaseCourse::usual`).
 //!
-//! They stand in a crate of their own, below the evaluator, so that each crate has few wrong programs. All but
+//! They stand in a crate of their own, below the evaluator, so that each crate has few mutants. All but
 //! `sign_at_sunset`, which the search for a sankranti calls too, ask for a day of which a fact may have a value; for
 //! another the evaluator answers void first.
 #![tactic(auto)]

@@ -35,7 +35,8 @@ fn signs_passed_at<E: Enclosure>(t: E, trail: &mut Trail) -> Result<i64, Fail>
     whole_signs(longitude, trail)
 }
 
-/// The same by the course of the sun over all days. Where it answers it has made the tests of `signs_passed_at`; a failure says nothing.
+/// The same by the linear model of the sun over all days. Where it answers it has made the tests of `signs_passed_at`; a failure says
+/// nothing.
 fn signs_passed_near<E: Enclosure>(
     course: &SunCourse<E>,
     t: E,
@@ -66,8 +67,8 @@ fn signs_passed_tried<E: Enclosure>(
     )
 }
 
-/// The whole signs that the sun has passed, from 0 to 12: by its course where that decides it, as it does but within hours of its
-/// coming into a sign, and else by its longitude at the moment.
+/// The whole signs that the sun has passed, from 0 to 12: by its linear model where that decides it, as it does but within hours of
+/// its coming into a sign, and else by its longitude at the moment.
 fn signs_passed<E: Enclosure>(course: &SunCourse<E>, t: E, trail: &mut Trail) -> Result<i64, Fail>
     ensures leads { Decides1 E.shown spec.signs_passed_of t trail.old.count trail.new.count result }
     ensures near { IfOk result IsSign }

@@ -1,4 +1,4 @@
--- Products and quotients of numbers within ranges lie between those of the ranges' ends.
+-- Products and quotients of numbers within ranges lie between those of the ranges' endpoints.
 use Rattle.std.proofs.Common.{◌≡◌, ℕ, suc, ◌-◌, ◌^◌, refl, arith, Bool, true, false, cond, int_le, neg_ℤ, ℤ, pos, ◌+ℤ◌, ◌*ℤ◌, ◌-ℤ◌, ◌≤ℤ◌, ◌<ℤ◌, [], ◌∷◌}
 use Rattle.std.proofs.lemmas.Int.{ints, clamps, by_lt_z}
 use Rattle.book_model.specs.Fraction.{floor_quotient}
@@ -31,7 +31,7 @@ over_both a b p j z h k l m =
     by_lt_z j (pos 0) (λ n. let f = falling_first a p j (omega (arith, ints, n)) h in omega (arith, ints, f, l))
     (λ n. let f = rising_first p b j n k in omega (arith, ints, f, m))
 
--- what is at most each product of ends is at most each product
+-- what is at most each product of endpoints is at most each product
 under_product : (a b c d p i z : ℤ) → a ≤ℤ p → p ≤ℤ b → c ≤ℤ i → i ≤ℤ d → IsBelowFour z (a *ℤ c) (a *ℤ d) (b *ℤ c) (b *ℤ d) → z ≤ℤ (p *ℤ i)
 under_product a b c d p i z h k l m f =
     let r = under_both a b p c z h k f.first f.third in

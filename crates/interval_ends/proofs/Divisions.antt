@@ -1,4 +1,4 @@
--- Quotients and squares of ends at a scale, rounded outwards.
+-- Quotients and squares of endpoints at a scale, rounded outwards.
 use Rattle.interval_ends.specs.Scales.{Scale, coarse, fine, at_scale, at_square, unit}
 use Rattle.std.proofs.Common.{◌≡◌, ℕ, zero, suc, ◌^◌, ◌-◌, refl, sym, ap, subst, arith, Bool, true, false, cond, ℤ, pos, negsuc, ◌*ℤ◌, ◌-ℤ◌, ◌≤ℤ◌, ◌<ℤ◌, [], ◌∷◌, inl, inr}
 use Rattle.std.proofs.lemmas.Int.{ints}
@@ -15,7 +15,7 @@ use Rattle.rounded_quotients.specs.Rounding.{IsFloor, IsCeiling}
 use Rattle.interval_ends.specs.Rounding.{IsOneSided, AreQuotientsAt, least_square_of, ShowsEnds}
 use Rattle.interval_ends.proofs.Keeping.{kept_within}
 
--- a number that counts 2^-72
+-- a number in units of 2^-72
 -- ---- a / c at the scale
 over_z : (q a c k : ℤ) → pos 0 ≤ℤ k → (q *ℤ c) ≤ℤ (a *ℤ k) → (q *ℤ (k *ℤ c)) ≤ℤ ((a *ℤ k) *ℤ k)
 over_z q a c k p h = le_by (q ∷ a ∷ c ∷ k ∷ []) ((lit (pos 0) ≼ at 3) ∷ (at 0 ⊗ at 2 ≼ at 1 ⊗ at 3) ∷ []) (at 0 ⊗ (at 3 ⊗ at 2)) ((at 1 ⊗ at 3) ⊗ at 3)
@@ -87,7 +87,7 @@ ceil_ratio_negative coarse q a (pos m) h f = absurd (omega (arith, ints))
 ceil_ratio_negative fine q a (pos m) h f = absurd (omega (arith, ints))
 
 -- ---- quotients
--- two ends hold the products with the reciprocals of a divisor, where they hold the four of the ends
+-- two endpoints hold the products with the reciprocals of a divisor, where they hold the four of the endpoints
 record HoldFour (scale : Scale) (a b : ℤ) (c d : Fraction) (lo hi : ℤ) : Type 0 where
   low_1 : at_scale scale lo ≤F times (at_scale scale a) c
   low_2 : at_scale scale lo ≤F times (at_scale scale a) d

@@ -1,4 +1,4 @@
--- What the operations on ends at a scale hold.
+-- What the operations on endpoints at a scale hold.
 use Rattle.interval_ends.specs.Scales.{Scale, coarse, fine, at_scale, at_square, unit}
 use Rattle.std.proofs.Common.{◌≡◌, suc, ◌+◌, ◌^◌, ◌-◌, refl, arith, ℤ, pos, negsuc, ◌+ℤ◌, ◌*ℤ◌, ◌-ℤ◌, ◌≤ℤ◌, [], ◌∷◌, ◌⊎◌, inl, inr}
 use lib.IntN.{neg_ℤ}
@@ -17,39 +17,39 @@ use Rattle.interval_ends.proofs.Keeping.{kept_within}
 use Rattle.rounded_quotients.proofs.Quotients.{≤ℤ_trans}
 
 -- ---- differences and opposites
--- the ends of a difference hold it
+-- the endpoints of a difference hold it
 pub difference_encloses : (scale : Scale) → (a b c d lo hi : ℤ) (i : Interval) → lo ≡ a -ℤ d → hi ≡ b -ℤ c → ShowsEnds scale lo hi i
     → difference (between (at_scale scale a) (at_scale scale b)) (between (at_scale scale c) (at_scale scale d)) ⊆ i
 unfolding sum negative plus opposite
--- the ends of a difference hold it
+-- the endpoints of a difference hold it
 difference_encloses coarse a b c d lo hi i e f h = within_trans
     (record { ends = (record { cross = omega (arith, ints) }, record { cross = omega (arith, ints) }) }) (kept_within coarse lo hi i h)
 difference_encloses fine a b c d lo hi i e f h = within_trans
     (record { ends = (record { cross = omega (arith, ints) }, record { cross = omega (arith, ints) }) }) (kept_within fine lo hi i h)
 
--- the ends of an opposite hold it
+-- the endpoints of an opposite hold it
 pub negative_encloses : (scale : Scale) → (a b lo hi : ℤ) (i : Interval) → lo ≡ pos 0 -ℤ b → hi ≡ pos 0 -ℤ a → ShowsEnds scale lo hi i
     → negative (between (at_scale scale a) (at_scale scale b)) ⊆ i
 unfolding negative opposite
--- the ends of an opposite hold it
+-- the endpoints of an opposite hold it
 negative_encloses coarse a b lo hi i e f h = within_trans (record { ends = (record { cross = omega (arith, ints) }, record { cross = omega (arith, ints) }) })
     (kept_within coarse lo hi i h)
 negative_encloses fine a b lo hi i e f h = within_trans (record { ends = (record { cross = omega (arith, ints) }, record { cross = omega (arith, ints) }) })
     (kept_within fine lo hi i h)
 
 -- ---- products
--- a number that counts 2^-72
--- a product of ends that is at least a number
+-- a number in units of 2^-72
+-- a product of endpoints that is at least a number
 over : (scale : Scale) → (n a c : ℤ) → n ≤ℤ (a *ℤ c) → at_square scale n ≤F times (at_scale scale a) (at_scale scale c)
 unfolding times
--- a product of ends that is at least a number
+-- a product of endpoints that is at least a number
 over coarse n a c h = record { cross = omega (arith, ints) }
 over fine n a c h = record { cross = omega (arith, ints) }
 
--- a product of ends that is at most a number
+-- a product of endpoints that is at most a number
 under : (scale : Scale) → (n a c : ℤ) → (a *ℤ c) ≤ℤ n → times (at_scale scale a) (at_scale scale c) ≤F at_square scale n
 unfolding times
--- a product of ends that is at most a number
+-- a product of endpoints that is at most a number
 under coarse n a c h = record { cross = omega (arith, ints) }
 under fine n a c h = record { cross = omega (arith, ints) }
 
@@ -62,7 +62,7 @@ rounded_within coarse l g lo hi f c = record {
 }
 rounded_within fine l g lo hi f c = record { ends = (record { cross = omega (arith, ints, f.not_above) }, record { cross = omega (arith, ints, c.not_below) }) }
 
--- the ends of a product, rounded outwards, hold it
+-- the endpoints of a product, rounded outwards, hold it
 pub product_encloses : (scale : Scale) → (x y x' y' l g lo hi : ℤ) (i : Interval) → IsBelowFour l (x *ℤ x') (x *ℤ y') (y *ℤ x') (y *ℤ y')
     → IsAboveFour g (x *ℤ x') (x *ℤ y') (y *ℤ x') (y *ℤ y')
     → IsFloor lo l (unit scale) → IsCeiling hi g (unit scale) → ShowsEnds scale lo hi i
@@ -79,11 +79,11 @@ product_encloses scale x y x' y' l g lo hi i b a f c k =
     })
     (within_trans (rounded_within scale l g lo hi f c) (kept_within scale lo hi i k))
 
--- the products of ends are in order
+-- the products of endpoints are in order
 pub products_order : (l g p q r s : ℤ) → IsBelowFour l p q r s → IsAboveFour g p q r s → l ≤ℤ g
 products_order l g p q r s b a = ≤ℤ_trans _ _ _ b.first a.first
 
--- ---- the lesser and the greater ends
+-- ---- the lesser and the greater endpoints
 -- numbers at the scale keep their order
 at_mono : (scale : Scale) → (p q : ℤ) → p ≤ℤ q → at_scale scale p ≤F at_scale scale q
 at_mono coarse p q h = record { cross = omega (arith, ints) }
@@ -144,40 +144,40 @@ pub record AreSame (i j : Interval) : Type 0 where
   pub there : i ⊆ j
   pub back : j ⊆ i
 
--- the lesser ends are those of the minimum
+-- the lesser endpoints are those of the minimum
 pub minimum_is : (scale : Scale) → (a b c d lo hi : ℤ) → lo ≡ int_min a c → hi ≡ int_min b d
     → AreSame (minimum (between (at_scale scale a) (at_scale scale b)) (between (at_scale scale c) (at_scale scale d)))
     (between (at_scale scale lo) (at_scale scale hi))
 unfolding minimum
--- the lesser ends are those of the minimum
+-- the lesser endpoints are those of the minimum
 minimum_is scale a b c d lo hi e f = record {
   there = record { ends = (below_smaller scale lo a c e, above_smaller scale hi b d f) };
   back = record { ends = (above_smaller scale lo a c e, below_smaller scale hi b d f) };
 }
 
--- the greater ends are those of the maximum
+-- the greater endpoints are those of the maximum
 pub maximum_is : (scale : Scale) → (a b c d lo hi : ℤ) → lo ≡ int_max a c → hi ≡ int_max b d
     → AreSame (maximum (between (at_scale scale a) (at_scale scale b)) (between (at_scale scale c) (at_scale scale d)))
     (between (at_scale scale lo) (at_scale scale hi))
 unfolding maximum
--- the greater ends are those of the maximum
+-- the greater endpoints are those of the maximum
 maximum_is scale a b c d lo hi e f = record {
   there = record { ends = (below_larger scale lo a c e, above_larger scale hi b d f) };
   back = record { ends = (above_larger scale lo a c e, below_larger scale hi b d f) };
 }
 
--- the lesser lower and the greater upper end are those of the hull
+-- the lesser lower and the greater upper endpoint are those of the hull
 pub hull_is : (scale : Scale) → (a b c d lo hi : ℤ) → lo ≡ int_min a c → hi ≡ int_max b d
     → AreSame (hull (between (at_scale scale a) (at_scale scale b)) (between (at_scale scale c) (at_scale scale d)))
     (between (at_scale scale lo) (at_scale scale hi))
 unfolding hull
--- the lesser lower and the greater upper end are those of the hull
+-- the lesser lower and the greater upper endpoint are those of the hull
 hull_is scale a b c d lo hi e f = record {
   there = record { ends = (below_smaller scale lo a c e, above_larger scale hi b d f) };
   back = record { ends = (above_smaller scale lo a c e, below_larger scale hi b d f) };
 }
 
--- the lesser ends of two ordered pairs are in order, and so are the greater
+-- the lesser endpoints of two ordered pairs are in order, and so are the greater
 pub lesser_order : (a b c d lo hi : ℤ) → a ≤ℤ b → c ≤ℤ d → lo ≡ int_min a c → hi ≡ int_min b d → lo ≤ℤ hi
 lesser_order a b c d lo hi p q e f = let l = lesser lo a c e in let g = lesser hi b d f in elim g.one
     [ inl h ↦ omega (arith, ints, l.first) | inr h ↦ omega (arith, ints, l.second) ]
@@ -218,13 +218,13 @@ unfolding hull
 hull_second a b = within_refl everything
 
 -- ---- widening
--- a lower end moved by what covers n / d
+-- a lower endpoint moved by what covers n / d
 lower_z : (a m n d k : ℤ) → pos 0 ≤ℤ k → (n *ℤ k) ≤ℤ (m *ℤ d) → ((a -ℤ m) *ℤ (k *ℤ d)) ≤ℤ ((a *ℤ d +ℤ neg_ℤ n *ℤ k) *ℤ k)
 lower_z a m n d k p h =
     le_by (a ∷ m ∷ n ∷ d ∷ k ∷ []) ((lit (pos 0) ≼ at 4) ∷ (at 2 ⊗ at 4 ≼ at 1 ⊗ at 3) ∷ []) ((at 0 ⊖ at 1) ⊗ (at 4 ⊗ at 3))
     ((at 0 ⊗ at 3 ⊕ minus (at 2) ⊗ at 4) ⊗ at 4) (known 0 ⊠ known 1) refl (p, (h, tt))
 
--- an upper end moved by what covers n / d
+-- an upper endpoint moved by what covers n / d
 upper_z : (a m n d k : ℤ) → pos 0 ≤ℤ k → (n *ℤ k) ≤ℤ (m *ℤ d) → ((a *ℤ d +ℤ n *ℤ k) *ℤ k) ≤ℤ ((a +ℤ m) *ℤ (k *ℤ d))
 upper_z a m n d k p h =
     le_by (a ∷ m ∷ n ∷ d ∷ k ∷ []) ((lit (pos 0) ≼ at 4) ∷ (at 2 ⊗ at 4 ≼ at 1 ⊗ at 3) ∷ []) ((at 0 ⊗ at 3 ⊕ at 2 ⊗ at 4) ⊗ at 4)
@@ -235,7 +235,7 @@ covers : (scale : Scale) → (f : Fraction) (m : ℤ) → IsMarginAt scale f m �
 covers coarse f m h = let r = h.rounded.not_below in let e : pos (f.below + 1) ≡ pos (suc f.below) = omega (arith, ints) in rw e at r
 covers fine f m h = let r = h.rounded.not_below in let e : pos (f.below + 1) ≡ pos (suc f.below) = omega (arith, ints) in rw e at r
 
--- ends moved outwards by a margin hold the widening
+-- endpoints moved outwards by a margin hold the widening
 pub widen_encloses : (scale : Scale) → (f : Fraction) (a b m lo hi : ℤ) (i : Interval) → IsMarginAt scale f m → lo ≡ a -ℤ m → hi ≡ b +ℤ m
     → ShowsEnds scale lo hi i → widen f (between (at_scale scale a) (at_scale scale b)) ⊆ i
 unfolding widen plus opposite size

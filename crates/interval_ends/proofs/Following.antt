@@ -228,14 +228,14 @@ unfolding Keeps bound_of limits_of
 narrow_remainder coarse shown r m x q i k h p = record { kept = h r.width _ p.kept }
 narrow_remainder fine shown r m x q i k h p = record { kept = h r.width _ p.kept }
 
--- the bound of ends that count 2^-56
+-- the bound of endpoints in units of 2^-56
 pub narrow_spanned : (ends : Scale) → (w : ℕ) (b : Bound) (i j : Interval) → (IsNarrow w b i → IsNarrow w (spanned_bound (limits_on ends) b) j) → IsNarrow w b i
     → IsNarrow w (spanned_bound (limits_of (bits_of ends)) b) j
 unfolding limits_of
 narrow_spanned coarse w b i j h p = h p
 narrow_spanned fine w b i j h p = h p
 
--- the angle of a wave: a phase, and a rate times the value
+-- the angle of a periodic term: a phase, and a rate times the value
 pub within_angle : {E : Type 0} (shown : E → Interval) (w : World) (f g : Fraction) (x : Expression) (i k : E)
     → sum (between f f) (product (shown i) (between g g)) ⊆ shown k → Within shown w x i → Within shown w (add (constant f) (scale g x)) k
 unfolding Lies value

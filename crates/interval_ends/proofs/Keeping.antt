@@ -1,4 +1,4 @@
--- Ends at a scale that hold the operations, and that keep a bound.
+-- Endpoints at a scale that hold the operations, and that keep a bound.
 use Rattle.interval_ends.specs.Scales.{Scale, coarse, fine, at_scale, unit, limits_on, span, grain, word, most_size}
 use Rattle.std.proofs.Common.{◌≡◌, ℕ, ◌+◌, ◌*◌, ◌^◌, ◌<◌, refl, arith, Bool, true, false, ◌&&◌, ℤ, pos, ◌+ℤ◌, ◌*ℤ◌, ◌-ℤ◌, ◌≤ℤ◌, SFits}
 use Rattle.std.proofs.lemmas.Int.{ints}
@@ -9,7 +9,7 @@ use Rattle.book_model.proofs.Intervals.{within_trans, within_everything}
 use Rattle.book_model.specs.numbers.Bounds.{Bound, unbounded, bounded, range_size, limited, integer_bound, sum_bound, Spans, IsNarrow}
 use Rattle.interval_ends.specs.Rounding.{ShowsEnds, fitting, too_large}
 
--- ends that keep a bound, in whole numbers
+-- endpoints that keep a bound, in whole numbers
 pub record AreKept (scale : Scale) (a b : ℤ) (s k w : ℕ) (lo hi : ℤ) : Type 0 where
   pub ordered : lo ≤ℤ hi
   pub above : (a *ℤ (span scale)) ≤ℤ lo
@@ -50,14 +50,14 @@ spans_of fine a b s k w lo hi h = record {
   close = record { cross = omega (arith, ints, h.close) };
 }
 
--- what is shown of two ends in 64 bits holds the interval between them
+-- what is shown of two endpoints in 64 bits holds the interval between them
 pub kept_within : (scale : Scale) → (lo hi : ℤ) (i : Interval) → ShowsEnds scale lo hi i → between (at_scale scale lo) (at_scale scale hi) ⊆ i
 kept_within coarse lo hi (between a b) fitting = record { ends = (record { cross = omega (arith, ints) }, record { cross = omega (arith, ints) }) }
 kept_within fine lo hi (between a b) fitting = record { ends = (record { cross = omega (arith, ints) }, record { cross = omega (arith, ints) }) }
 kept_within coarse lo hi everything (too_large n) = within_everything _
 kept_within fine lo hi everything (too_large n) = within_everything _
 
--- two ends in 64 bits are shown as they are
+-- two endpoints in 64 bits are shown as they are
 pub keeps_both : (scale : Scale) → (lo hi a b : ℤ) → a ≡ lo → b ≡ hi → ShowsEnds scale lo hi (between (at_scale scale a) (at_scale scale b))
 keeps_both scale lo hi a b e f = rw (e, f) fitting
 
@@ -66,7 +66,7 @@ fits_size : (scale : Scale) → (a b lo : ℤ) → range_size a b < (most_size s
 fits_size coarse a b lo h p q = omega (arith, ints)
 fits_size fine a b lo h p q = omega (arith, ints)
 
--- what is shown of two ends in 64 bits keeps a bound that the ends keep, where the limits hold
+-- what is shown of two endpoints in 64 bits keeps a bound that the endpoints keep, where the limits hold
 pub limited_narrow : (scale : Scale) → (t : Bool) (a b : ℤ) (s k w : ℕ) (lo hi : ℤ) (i : Interval) → (t ≡ true → range_size a b < (most_size scale))
     → AreKept scale a b s k w lo hi → ShowsEnds scale lo hi i → IsNarrow w (limited t (bounded a b s k)) i
 unfolding IsNarrow
@@ -87,7 +87,7 @@ both true q e = (refl, e)
 both false q e = (e, cc)
 
 -- ---- whole numbers
--- the ends of a whole number keep its bound
+-- the endpoints of a whole number keep its bound
 pub int_narrow : (scale : Scale) → (w : ℕ) (n at : ℤ) (i : Interval) → at ≡ n *ℤ (unit scale) → ShowsEnds scale at at i
     → IsNarrow w (integer_bound (limits_on scale) n) i
 unfolding integer_bound
@@ -99,26 +99,26 @@ int_narrow fine w n at i e h =
     (record { ordered = omega (arith, ints); above = omega (arith, ints); below = omega (arith, ints); close = omega (arith, ints) }) h
 
 -- ---- sums
--- the ends of a sum hold it
+-- the endpoints of a sum hold it
 pub sum_encloses : (scale : Scale) → (a b c d lo hi : ℤ) (i : Interval) → lo ≡ a +ℤ c → hi ≡ b +ℤ d → ShowsEnds scale lo hi i
     → sum (between (at_scale scale a) (at_scale scale b)) (between (at_scale scale c) (at_scale scale d)) ⊆ i
 unfolding sum plus
--- the ends of a sum hold it
+-- the endpoints of a sum hold it
 sum_encloses coarse a b c d lo hi i e f h = within_trans (record { ends = (record { cross = omega (arith, ints) }, record { cross = omega (arith, ints) }) })
     (kept_within coarse lo hi i h)
 sum_encloses fine a b c d lo hi i e f h = within_trans (record { ends = (record { cross = omega (arith, ints) }, record { cross = omega (arith, ints) }) })
     (kept_within fine lo hi i h)
 
--- sums of ends keep the sum of their bounds
+-- sums of endpoints keep the sum of their bounds
 sum_kept : (scale : Scale) → (a b c d : ℤ) (s k t m w : ℕ) (x y x' y' lo hi : ℤ) → lo ≡ x +ℤ x' → hi ≡ y +ℤ y' → AreKept scale a b s k w x y
     → AreKept scale c d t m w x' y' → AreKept scale (a +ℤ c) (b +ℤ d) (s + t) (k + m) w lo hi
--- sums of ends keep the sum of their bounds
+-- sums of endpoints keep the sum of their bounds
 sum_kept coarse a b c d s k t m w x y x' y' lo hi e f h j = record
     { ordered = omega (arith, ints); above = omega (arith, ints); below = omega (arith, ints); close = omega (arith, ints) }
 sum_kept fine a b c d s k t m w x y x' y' lo hi e f h j = record
     { ordered = omega (arith, ints); above = omega (arith, ints); below = omega (arith, ints); close = omega (arith, ints) }
 
--- the ends of a sum keep its bound
+-- the endpoints of a sum keep its bound
 pub sum_narrow : (scale : Scale) → (w : ℕ) (p q : Bound) (x y x' y' lo hi : ℤ) (i : Interval) → lo ≡ x +ℤ x' → hi ≡ y +ℤ y' → ShowsEnds scale lo hi i
     → IsNarrow w p (between (at_scale scale x) (at_scale scale y)) → IsNarrow w q (between (at_scale scale x') (at_scale scale y'))
     → IsNarrow w (sum_bound (limits_on scale) p q) i
@@ -134,7 +134,7 @@ sum_narrow fine w (bounded a b s k) (bounded c d t m) x y x' y' lo hi i e f v h 
     limited_narrow fine _ _ _ _ _ _ lo hi i (λ l. ltb-true _ _ l)
     (sum_kept fine a b c d s k t m w x y x' y' lo hi e f (kept_of fine _ _ _ _ _ _ _ h) (kept_of fine _ _ _ _ _ _ _ j)) v
 
--- ends that lie within sums of ends keep the sum of their bounds
+-- endpoints that lie within sums of endpoints keep the sum of their bounds
 sum_kept_inner : (scale : Scale) → (a b c d : ℤ) (s k t m w : ℕ) (x y x' y' lo hi : ℤ) → lo ≤ℤ hi → (x +ℤ x') ≤ℤ lo → hi ≤ℤ (y +ℤ y')
     → AreKept scale a b s k w x y → AreKept scale c d t m w x' y' → AreKept scale (a +ℤ c) (b +ℤ d) (s + t) (k + m) w lo hi
 sum_kept_inner coarse a b c d s k t m w x y x' y' lo hi o e f h j = record {

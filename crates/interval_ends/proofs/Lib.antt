@@ -1,4 +1,4 @@
--- of rounded_quotients, given on
+-- of rounded_quotients, re-exported
 pub use Rattle.rounded_quotients.proofs.HighHalves
 pub use Rattle.rounded_quotients.proofs.Quotients
 pub use Rattle.rounded_quotients.proofs.Stepping

@@ -1,4 +1,4 @@
--- The ends of a word as ends at its scale.
+-- The endpoints of a word as endpoints at its scale.
 use Rattle.std.proofs.Common.{◌≡◌, refl, ℤ, ◌-ℤ◌, Option, Some, None}
 use Rattle.std.proofs.Common.{SFits}
 use Rattle.std.specs.Prelude.{IfSome, IsSome}
@@ -10,7 +10,7 @@ use Rattle.interval_ends.specs.Scales.{Scale, coarse, fine, limits_on, most_nume
 use Rattle.interval_ends.specs.Shown.{shown_ends, HasEnds}
 use Rattle.interval_ends.proofs.Keeping.{keeps_both}
 
--- what is shown of ends that are there where both fit
+-- what is shown of endpoints that are there where both fit
 pub shows : {I : Type 0} {g : Ghosts I} (lo hi : ℤ) (r : Option (Ends I g)) → HasEnds lo hi r → ShowsEnds g.scale lo hi (shown_ends r)
 shows lo hi None h = too_large h
 shows {g = g} lo hi (Some e) h = keeps_both g.scale lo hi _ _ h.0 h.1
@@ -20,13 +20,13 @@ pub constants_are : (scale : Scale) → (limits_on scale).constants ≡ most_num
 constants_are coarse = refl
 constants_are fine = refl
 
--- what holds of the ends' distance holds of the ends that are there
+-- what holds of the endpoints' distance holds of the endpoints that are there
 pub when_there : {I : Type 0} {g : Ghosts I} (lo hi : ℤ) (r : Option (Ends I g)) (P : ℤ → Type 0) → HasEnds lo hi r → P (hi -ℤ lo)
     → IfSome r (λ e. P (g.value e.hi -ℤ g.value e.lo))
 when_there lo hi None P h k = tt
 when_there lo hi (Some e) P h k = rw (h.0, h.1) k
 
--- ends that fit in 128 bits are there where the word has as many
+-- endpoints that fit in 128 bits are there where the word has as many
 pub is_there : {I : Type 0} {g : Ghosts I} (lo hi : ℤ) (r : Option (Ends I g)) → HasEnds lo hi r → word g.scale ≡ w128 → SFits w128 lo → SFits w128 hi
     → IsSome r
 is_there lo hi None h e f k = absurd (h (rw e f) (rw e k))

@@ -3,7 +3,7 @@ use Rattle.std.proofs.Common.{◌≡◌, ℕ, ◌^◌, ◌<◌, arith, ℤ, pos,
 use Rattle.std.specs.Int.{w64, w128}
 use Rattle.std.proofs.lemmas.Int.{ints}
 
--- how far an end is above a number z, in units, by the whole number that is not above the end
+-- how far an endpoint is above a number z, in units, by the whole number that is not above the endpoint
 pub record AreLowered (z whole end : ℤ) : Type 0 where
   pub begun : SFits w128 z
   pub above : SFits w128 (whole -ℤ z)

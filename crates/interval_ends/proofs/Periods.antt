@@ -1,4 +1,4 @@
--- The periods of ends at a scale.
+-- The periods of endpoints at a scale.
 use Rattle.interval_ends.specs.Scales.{Scale, coarse, fine, at_scale, unit, below}
 use Rattle.std.proofs.Common.{◌≡◌, ℕ, ◌^◌, ◌-◌, refl, sym, ◌∙◌, arith, ℤ, ◌*ℤ◌, ◌-ℤ◌, Some, None}
 use Rattle.std.proofs.lemmas.Int.{ints}
@@ -36,7 +36,7 @@ pub period_nowhere : (m : ℕ) → None ≡ cell_at (multiples m) everything
 unfolding cell_at
 period_nowhere m = refl
 
--- ends that are moved down by a whole number
+-- endpoints that are moved down by a whole number
 pub lower_encloses : (scale : Scale) → (a b t lo hi : ℤ) (i : Interval) → lo ≡ a -ℤ (t *ℤ (unit scale)) → hi ≡ b -ℤ (t *ℤ (unit scale))
     → ShowsEnds scale lo hi i → difference (between (at_scale scale a) (at_scale scale b)) (between (whole t) (whole t)) ⊆ i
 unfolding sum negative plus opposite
@@ -45,6 +45,6 @@ lower_encloses coarse a b t lo hi i e f h = within_trans (record { ends = (recor
 lower_encloses fine a b t lo hi i e f h = within_trans (record { ends = (record { cross = omega (arith, ints) }, record { cross = omega (arith, ints) }) })
     (kept_within fine lo hi i h)
 
--- a period that is known is the one that the ends give
+-- a period that is known is the one that the endpoints give
 pub known_period : (q r : ℤ) (i : Interval) (m : ℕ) → Some q ≡ cell_at (multiples m) i → cell_at (multiples m) i ≡ Some r → r ≡ q
 known_period q r i m e f = cc

@@ -1,4 +1,4 @@
--- Ends at a scale that keep the bounds of products and squares.
+-- Endpoints at a scale that keep the bounds of products and squares.
 use Rattle.interval_ends.specs.Scales.{Scale, coarse, fine, at_scale, unit, limits_on, span, grain, slack}
 use Rattle.std.proofs.Common.{◌≡◌, ℕ, suc, ◌+◌, ◌*◌, ◌-◌, ◌^◌, ◌≤◌, refl, sym, arith, Bool, true, false, cond, int_le, ℤ, pos, ◌+ℤ◌, ◌*ℤ◌, ◌-ℤ◌, ◌≤ℤ◌, [], ◌∷◌}
 use Rattle.std.proofs.lemmas.Int.{ints}
@@ -79,7 +79,7 @@ slopes fine a b s k t m w p q x y ha hb hw hx hy hp hq =
     (n 48 ⊗ (at 0 ⊗ at 10 ⊕ at 1 ⊗ at 9)) (n 32 ⊗ (at 7 ⊗ at 6) ⊕ n 72 ⊗ at 8)
     (known 1 ⊠ known 3 ⊞ known 0 ⊠ known 4 ⊞ known 2 ⊠ known 5 ⊞ naturally (2 ^ 40) ⊠ known 6) refl (ha, (hb, (hw, (hx, (hy, (hp, (hq, tt)))))))
 
--- numbers that count 2^-72, as far apart as the factors allow, rounded outwards
+-- numbers in units of 2^-72, as far apart as the factors allow, rounded outwards
 rounded_kept : (scale : Scale) → (low high : ℤ) (A B s k t m w S M : ℕ) (x y u g lo hi : ℤ) → lo ≤ℤ hi → IsFloor lo u (unit scale) → IsCeiling hi g (unit scale)
     → (((low *ℤ pos (2 ^ 32)) *ℤ (span scale)) *ℤ (span scale)) ≤ℤ u → g ≤ℤ (((high *ℤ pos (2 ^ 32)) *ℤ (span scale)) *ℤ (span scale))
     → g ≤ℤ (u +ℤ (((span scale) *ℤ pos A) *ℤ y +ℤ ((span scale) *ℤ pos B) *ℤ x)) → (x *ℤ (grain scale)) ≤ℤ pos (s * w + k * 2 ^ 40) → (y *ℤ (grain scale))
@@ -107,7 +107,7 @@ rounded_kept fine low high A B s k t m w S M x y u g lo hi o f c l h n wx wy hs 
 pub ceil_above : (n d : ℕ) → n ≤ ceil_div n d * suc d
 ceil_above n d = omega arith
 
--- the sizes of ends that keep a bound
+-- the sizes of endpoints that keep a bound
 pub record AreSized (scale : Scale) (A : ℕ) (x y : ℤ) : Type 0 where
   pub above : (pos 0 -ℤ (span scale) *ℤ pos A) ≤ℤ x
   pub below : y ≤ℤ ((span scale) *ℤ pos A)
@@ -183,7 +183,7 @@ pub span_natural : (scale : Scale) → pos 0 ≤ℤ (span scale)
 span_natural coarse = omega (arith, ints)
 span_natural fine = omega (arith, ints)
 
--- both ends lie in their range
+-- both endpoints lie in their range
 pub first_in : (scale : Scale) → (a b : ℤ) (s k w : ℕ) (x y : ℤ) → AreKept scale a b s k w x y → LiesIn (span scale) a b x
 first_in scale a b s k w x y h = record { from = h.above; to = omega (arith, ints, h.ordered, h.below) }
 
@@ -287,7 +287,7 @@ allowed : (a w : ℤ) → pos 0 ≤ℤ a → pos 0 ≤ℤ w → pos 0 ≤ℤ (a 
 allowed a w h k = le_by (a ∷ w ∷ []) ((lit (pos 0) ≼ at 0) ∷ (lit (pos 0) ≼ at 1) ∷ []) (lit (pos 0)) (at 0 ⊗ at 1 ⊕ at 0 ⊗ at 1)
     (naturally 2 ⊠ known 0 ⊠ known 1) refl (h, (k, tt))
 
--- the least square is not below 0, and the squares of the ends are no further above it than the width allows
+-- the least square is not below 0, and the squares of the endpoints are no further above it than the width allows
 pub record AreSquares (x y a u : ℤ) : Type 0 where
   pub natural : pos 0 ≤ℤ u
   pub first : (x *ℤ x) ≤ℤ (u +ℤ (a *ℤ (y -ℤ x) +ℤ a *ℤ (y -ℤ x)))

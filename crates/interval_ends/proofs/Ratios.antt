@@ -1,4 +1,4 @@
--- Quotients of ends at a scale by a divisor above 0: two of them enclose all, and they keep a bound.
+-- Quotients of endpoints at a scale by a divisor above 0: two of them enclose all, and they keep a bound.
 use Rattle.interval_ends.specs.Scales.{Scale, coarse, fine, at_scale, unit, limits_on, span, grain, slack}
 use Rattle.std.proofs.Common.{◌≡◌, ℕ, zero, suc, ◌+◌, ◌*◌, ◌-◌, ◌^◌, ◌≤◌, ◌<◌, refl, arith, unsigned_abs, ℤ, pos, negsuc, ◌+ℤ◌, ◌*ℤ◌, ◌-ℤ◌, ◌≤ℤ◌, ◌<ℤ◌, [], ◌∷◌, inl, inr}
 use Rattle.std.proofs.lemmas.Int.{ints, by_lt_z}
@@ -284,7 +284,7 @@ quotient_kept fine low high A g s k t m w S M x y c d lo hi q l u z from wx wy h
     (omega (arith, ints, hs)) (omega (arith, ints, hm)) in
     record { ordered = q.ordered; above = l; below = u; close = omega (arith, ints, b) }
 
--- the divisors lie in their range, whose greater end is above 0
+-- the divisors lie in their range, whose greater endpoint is above 0
 record HasDivisors (scale : Scale) (g e : ℕ) (b' c d : ℤ) : Type 0 where
   last : pos (suc e) ≡ b'
   first_divisor : LiesIn (span scale) (pos (suc g)) (pos (suc e)) c

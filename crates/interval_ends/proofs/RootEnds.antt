@@ -1,4 +1,4 @@
--- Roots of ends at a scale, and ends that are cut to -1..1.
+-- Roots of endpoints at a scale, and endpoints that are cut to -1..1.
 use Rattle.interval_ends.specs.Scales.{Scale, coarse, fine, at_scale, unit, half_bits}
 use Rattle.std.proofs.Common.{◌≡◌, ℕ, zero, suc, ◌≤◌, ◌^◌, ◌*◌, arith, ℤ, pos, negsuc, ◌+ℤ◌, ◌*ℤ◌, ◌≤ℤ◌, ◌⊎◌, inl, inr}
 use lib.IntN.{neg_ℤ}

@@ -1,4 +1,4 @@
--- Roots of ends, and ends that are cut to -1..1, keep their bounds.
+-- Roots of endpoints, and endpoints that are cut to -1..1, keep their bounds.
 use Rattle.interval_ends.specs.Scales.{Scale, coarse, fine, at_scale, unit, units, bits_of, limits_on, bits_of, spans, grains, slack}
 use Rattle.std.proofs.Common.{◌≡◌, ℕ, zero, suc, ◌+◌, ◌*◌, ◌-◌, ◌/◌, ◌^◌, ◌≤◌, ◌<◌, refl, subst, arith, Bool, true, false, ℤ, pos, negsuc, ◌+ℤ◌, ◌*ℤ◌, ◌-ℤ◌, ◌≤ℤ◌, ◌<ℤ◌, ◌⊎◌, inl, inr}
 use Rattle.std.proofs.lemmas.Int.{ints, clamps}

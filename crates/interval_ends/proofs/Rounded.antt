@@ -1,4 +1,4 @@
--- How far apart ends are that are rounded outwards.
+-- How far apart endpoints are that are rounded outwards.
 use Rattle.std.proofs.Common.{◌≡◌, ℕ, suc, ◌+◌, refl, arith, unsigned_abs, ℤ, pos, negsuc, ◌+ℤ◌, ◌*ℤ◌, ◌-ℤ◌, ◌≤ℤ◌, ◌<ℤ◌, [], ◌∷◌}
 use Rattle.std.proofs.lemmas.Int.{ints, by_lt_z}
 use Rattle.book_model.proofs.Ring.{at, lit, ◌⊕◌, ◌⊖◌, ◌⊗◌}

@@ -1,4 +1,4 @@
--- Fractions, and products with fractions, at a scale: ends rounded outwards hold them and keep a bound.
+-- Fractions, and products with fractions, at a scale: endpoints rounded outwards hold them and keep a bound.
 use Rattle.interval_ends.specs.Scales.{Scale, coarse, fine, at_scale, unit, limits_on, span, spans, grain, slack, most_numerator, most_product}
 use Rattle.std.proofs.Common.{◌≡◌, ℕ, suc, ◌+◌, ◌*◌, ◌^◌, ◌-◌, ◌≤◌, ◌<◌, refl, sym, arith, Bool, true, false, ◌&&◌, ℤ, pos, ◌+ℤ◌, ◌*ℤ◌, ◌-ℤ◌, ◌≤ℤ◌, ◌<ℤ◌, [], ◌∷◌, SFits}
 use Rattle.std.specs.Int.{w128}
@@ -31,7 +31,7 @@ constant_below : (scale : Scale) → (f : Fraction) (m q : ℤ) → m ≡ f.num 
 constant_below coarse f m q e h = by_cross f (at_scale coarse q) (pos (suc f.below)) (pos (2 ^ 36)) refl refl (rw e at h)
 constant_below fine f m q e h = by_cross f (at_scale fine q) (pos (suc f.below)) (pos (2 ^ 56)) refl refl (rw e at h)
 
--- ends rounded outwards hold a fraction
+-- endpoints rounded outwards hold a fraction
 pub constant_encloses : (scale : Scale) → (f : Fraction) (m lo hi d : ℤ) (i : Interval) → m ≡ f.num *ℤ (unit scale) → d ≡ pos (f.below + 1) → IsFloor lo m d
     → IsCeiling hi m d → ShowsEnds scale lo hi i → between f f ⊆ i
 constant_encloses coarse f m lo hi d i em ed l u k =
@@ -85,7 +85,7 @@ flip_ceiling : (hi d g : ℤ) → (hi *ℤ d +ℤ pos 1) ≤ℤ (g +ℤ d) → (
 flip_ceiling hi d g h = le_by (hi ∷ d ∷ g ∷ []) ((at 0 ⊗ at 1 ⊕ lit (pos 1) ≼ at 2 ⊕ at 1) ∷ []) ((lit (pos 0) ⊖ at 2) ⊕ lit (pos 1))
     ((lit (pos 0) ⊖ at 0) ⊗ at 1 ⊕ at 1) (known 0) refl (h, tt)
 
--- ends rounded outwards keep the bound of a fraction
+-- endpoints rounded outwards keep the bound of a fraction
 constant_kept : (scale : Scale) → (f : Fraction) (w : ℕ) (m lo hi : ℤ) → m ≡ f.num *ℤ (unit scale) → IsFloor lo m (pos (suc f.below))
     → IsCeiling hi m (pos (suc f.below))
     → AreKept scale (floor_at_32 f) (ceil_at_32 f) 0 ((slack scale)) w lo hi
@@ -200,8 +200,8 @@ times_below coarse q a f h = by_cross _ (at_scale coarse q) (pos (2 ^ 36) *ℤ p
 times_below fine q a f h = by_cross _ (at_scale fine q) (pos (2 ^ 56) *ℤ pos (suc f.below)) (pos (2 ^ 56)) (den_product (2 ^ 56 - 1) f.below) refl
     (frac_under_z q a f.num (pos (suc f.below)) (pos (2 ^ 56)) (pos_nonneg (2 ^ 56)) h)
 
--- ends x, y and a fraction of numerator n and denominator d: their products p and q are m and g in order, which
--- are lo and hi when rounded outwards
+-- endpoints x, y and a fraction of numerator n and denominator d: their products p and q are m and g in order,
+-- which are lo and hi when rounded outwards
 pub record AreScaled (f : Fraction) (x y n p q m g d lo hi : ℤ) : Type 0 where
   pub numerator : n ≡ f.num
   pub first : p ≡ x *ℤ n
@@ -229,7 +229,7 @@ products_of f x y n p q m g d lo hi s =
     let ed : d ≡ pos (suc f.below) = omega (arith, ints, s.denominator) in
     record { order = rw (ep, eq, en) at o; down = rw ed at l; up = rw ed at u }
 
--- ends rounded outwards hold the products with a fraction
+-- endpoints rounded outwards hold the products with a fraction
 pub scale_encloses : (scale : Scale) → (f : Fraction) (x y n p q m g d lo hi : ℤ) (i : Interval) → AreScaled f x y n p q m g d lo hi → ShowsEnds scale lo hi i
     → product (between (at_scale scale x) (at_scale scale y)) (between f f) ⊆ i
 unfolding product
@@ -242,7 +242,7 @@ scale_encloses scale f x y n p q m g d lo hi i s k =
     within_trans (record { ends = (least_is (at_scale scale lo) _ _ _ _ la la lb lb, greatest_is (at_scale scale hi) _ _ _ _ ga ga gb gb) })
     (kept_within scale lo hi i k)
 
--- the width of a fraction of ends
+-- the width of a fraction of endpoints
 close_z : (scale : Scale) → (N d s k w S M m g lo hi V : ℤ) → g ≤ℤ (m +ℤ N *ℤ V) → (V *ℤ (grain scale)) ≤ℤ (s *ℤ w +ℤ k *ℤ pos (2 ^ 40)) → (s *ℤ N) ≤ℤ (S *ℤ d)
     → (k *ℤ N) ≤ℤ (M *ℤ d)
     → (m +ℤ pos 1) ≤ℤ (lo *ℤ d +ℤ d) → (hi *ℤ d +ℤ pos 1) ≤ℤ (g +ℤ d) → pos 0 ≤ℤ N → pos 0 ≤ℤ w → pos 1 ≤ℤ d → ((hi -ℤ lo) *ℤ (grain scale))
@@ -309,7 +309,7 @@ above_z P Z d m lo h0 h1 h2 h3 n =
 above : (P Z d m lo : ℤ) → P ≤ℤ (Z *ℤ d) → (pos 0 -ℤ P) ≤ℤ m → (m +ℤ pos 1) ≤ℤ (lo *ℤ d +ℤ d) → pos 0 ≤ℤ d → (pos 0 -ℤ Z) ≤ℤ lo
 above P Z d m lo h0 h1 h2 h3 = by_lt_z lo (pos 0 -ℤ Z) (λ n. absurd (above_z P Z d m lo h0 h1 h2 h3 (next_le _ _ n))) (λ h. h)
 
--- the difference of the products of two ends
+-- the difference of the products of two endpoints
 turn_z : (x y n N : ℤ) → x ≤ℤ y → n ≤ℤ N → (pos 0 -ℤ N) ≤ℤ n → ((x *ℤ n) ≤ℤ (y *ℤ n +ℤ N *ℤ (y -ℤ x))) × ((y *ℤ n) ≤ℤ (x *ℤ n +ℤ N *ℤ (y -ℤ x)))
 turn_z x y n N h0 h1 h2 = (
   le_by (x ∷ y ∷ n ∷ N ∷ []) ((at 0 ≼ at 1) ∷ (at 2 ≼ at 3) ∷ (lit (pos 0) ⊖ at 3 ≼ at 2) ∷ []) (at 0 ⊗ at 2) (at 1 ⊗ at 2 ⊕ at 3 ⊗ (at 1 ⊖ at 0))
@@ -339,7 +339,7 @@ ceil_above : (n d : ℕ) → n ≤ ceil_div n d * suc d
 ceil_above n d = omega arith
 
 -- ---- the range of a product
--- 16 times a quotient of an end of the range, rounded down, is not above a product
+-- 16 times a quotient of an endpoint of the range, rounded down, is not above a product
 corner_low : (scale : Scale) → (z a b n d p q u : ℤ) → (a *ℤ (span scale)) ≤ℤ z → z ≤ℤ (b *ℤ (span scale)) → (p *ℤ d) ≤ℤ (a *ℤ n) → (q *ℤ d) ≤ℤ (b *ℤ n) → u
     ≤ℤ p → u ≤ℤ q → pos 0 ≤ℤ d → ((u *ℤ (span scale)) *ℤ d) ≤ℤ (z *ℤ n)
 corner_low coarse z a b n d p q u hz kz hp hq hu ku hd =
@@ -398,7 +398,7 @@ above_ceiling v d g hi h k l =
     (h, (k, (l, (next_le _ _ n, tt))))))
     (λ n. n)
 
--- quotients of the range's two ends by which a product's range is known
+-- quotients of the range's two endpoints by which a product's range is known
 record AreScaledEnds (n : ℤ) (d : ℕ) (a b u v : ℤ) : Type 0 where
   low_first : u ≤ℤ floor_quotient (a *ℤ n) d
   low_second : u ≤ℤ floor_quotient (b *ℤ n) d
@@ -414,7 +414,7 @@ quotient_above z d = turned z (floor_quotient (neg_ℤ z) d) (pos (suc d)) (floo
     turned : (z q d : ℤ) → (q *ℤ d) ≤ℤ neg_ℤ z → z ≤ℤ (neg_ℤ q *ℤ d)
     turned z q d h = le_by (z ∷ q ∷ d ∷ []) ((at 1 ⊗ at 2 ≼ minus (at 0)) ∷ []) (at 0) (minus (at 1) ⊗ at 2) (known 0) refl (h, tt)
 
--- ends rounded outwards keep the bound of a product with a fraction
+-- endpoints rounded outwards keep the bound of a product with a fraction
 scaled_kept : (scale : Scale) → (a b u v : ℤ) (N s k w S M : ℕ) (f : Fraction) (x y m g lo hi : ℤ) → N ≡ unsigned_abs f.num → x ≤ℤ y → (a *ℤ (span scale)) ≤ℤ x
     → y ≤ℤ (b *ℤ (span scale)) → ((y -ℤ x) *ℤ (grain scale)) ≤ℤ pos (s * w + k * 2 ^ 40)
     → AreProducts f x y m g lo hi → AreScaledEnds f.num f.below a b u v → s * N ≤ S * suc f.below → k * N ≤ M * suc f.below

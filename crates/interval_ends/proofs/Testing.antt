@@ -1,4 +1,4 @@
--- The tests at ends of a scale.
+-- The tests at endpoints of a scale.
 use Rattle.interval_ends.specs.Scales.{Scale, coarse, fine, at_scale, below, finer_units}
 use Rattle.std.proofs.Common.{◌≡◌, ◌^◌, ◌-◌, refl, sym, ◌∙◌, arith, Bool, true, false, ℤ, pos, negsuc, ◌*ℤ◌, ◌≤ℤ◌, ◌<ℤ◌, Some, None}
 use Rattle.std.specs.Ordering.{int_eq}
@@ -11,13 +11,13 @@ use Rattle.book_model.specs.Interval.{Interval, everything, between, ◌⊆◌, 
 use Rattle.book_model.specs.programs.Programs.{integers, cell_of, cell_at, compare_at}
 use Rattle.book_model.specs.programs.Leading.{AreEnds, bounds, no_bounds, IsOpenComparison}
 
--- the ends of an open test, at its finer scale
+-- the bounds of an undecided test, at its finer scale
 pub ends_between : (scale : Scale) → (a b lo hi : ℤ) → lo ≡ a *ℤ (finer_units scale) → hi ≡ b *ℤ (finer_units scale)
     → AreEnds lo hi (between (at_scale scale a) (at_scale scale b))
 ends_between coarse a b lo hi e f = bounds (record { cross = omega (arith, ints) }) (record { cross = omega (arith, ints) })
 ends_between fine a b lo hi e f = bounds (record { cross = omega (arith, ints) }) (record { cross = omega (arith, ints) })
 
--- an open test of everything has no bounds
+-- an undecided test of everything has no bounds
 pub ends_everything : AreEnds (negsuc (2 ^ 127 - 1)) (pos (2 ^ 127 - 1)) everything
 ends_everything = no_bounds (record { least = refl; greatest = refl })
 
@@ -33,7 +33,7 @@ eq_no p q n = by_test _ refl
     by_test false e = e
     by_test true e = absurd (n ((Decides-int_eq p q).0 e))
 
--- both ends are in one cell
+-- both endpoints are in one cell
 pub cell_same : (scale : Scale) → (a b p q r : ℤ) → p ≡ floor_quotient a ((below scale)) → q ≡ floor_quotient b ((below scale)) → p ≡ q → r ≡ p → Some r
     ≡ cell_at integers (between (at_scale scale a) (at_scale scale b))
 unfolding cell_at cell_of
@@ -44,7 +44,7 @@ cell_same fine a b p q r e f h k =
     let t = eq_yes (floor_quotient a (2 ^ 56 - 1)) (floor_quotient b (2 ^ 56 - 1)) (sym e ∙ h ∙ f) in
     rw (t, k, e) refl
 
--- the ends are in different cells
+-- the endpoints are in different cells
 pub cell_apart : (scale : Scale) → (a b p q : ℤ) → p ≡ floor_quotient a ((below scale)) → q ≡ floor_quotient b ((below scale)) → (p ≡ q → ⊥) → None
     ≡ cell_at integers (between (at_scale scale a) (at_scale scale b))
 unfolding cell_at cell_of
@@ -61,7 +61,7 @@ unfolding cell_at
 cell_nowhere = refl
 
 -- ---- comparisons
--- the order of ends is that of their numbers
+-- the order of endpoints is that of their numbers
 at_most_yes : (scale : Scale) → (p q : ℤ) → p ≤ℤ q → is_at_most (at_scale scale p) (at_scale scale q) ≡ true
 unfolding is_at_most
 at_most_yes coarse p q h = by_test _ refl
@@ -89,21 +89,21 @@ at_most_no fine p q h = by_test _ refl
     by_test false e = refl
     by_test true e = absurd (omega (arith, ints))
 
--- the first ends are below the second
+-- the first endpoints are below the second
 pub order_below : (scale : Scale) → (a b c d : ℤ) → b <ℤ c → Some true
     ≡ compare_at (between (at_scale scale a) (at_scale scale b)) (between (at_scale scale c) (at_scale scale d))
 unfolding compare_at
 order_below coarse a b c d h = rw (at_most_no coarse c b h) refl
 order_below fine a b c d h = rw (at_most_no fine c b h) refl
 
--- the first ends are not below the second
+-- the first endpoints are not below the second
 pub order_above : (scale : Scale) → (a b c d : ℤ) → c ≤ℤ b → d ≤ℤ a → Some false
     ≡ compare_at (between (at_scale scale a) (at_scale scale b)) (between (at_scale scale c) (at_scale scale d))
 unfolding compare_at
 order_above coarse a b c d h k = rw (at_most_yes coarse c b h, at_most_yes coarse d a k) refl
 order_above fine a b c d h k = rw (at_most_yes fine c b h, at_most_yes fine d a k) refl
 
--- the ends leave it open
+-- the endpoints leave it undecided
 pub order_open : (scale : Scale) → (a b c d : ℤ) → c ≤ℤ b → a <ℤ d → None
     ≡ compare_at (between (at_scale scale a) (at_scale scale b)) (between (at_scale scale c) (at_scale scale d))
 unfolding compare_at
@@ -120,7 +120,7 @@ pub order_second : (a b : Fraction) → None ≡ compare_at (between a b) everyt
 unfolding compare_at
 order_second a b = refl
 
--- the ends of an interval are those of one that it holds and that holds it
+-- the endpoints of an interval are those of one that it holds and that holds it
 ends_of_same : (lo hi : ℤ) (i j : Interval) → AreEnds lo hi i → i ⊆ j → j ⊆ i → AreEnds lo hi j
 ends_of_same lo hi (between a b) (between c d) (bounds e f) h k = bounds (same_trans e (same_of_le k.ends.0 h.ends.0))
     (same_trans f (same_of_le h.ends.1 k.ends.1))
@@ -128,6 +128,6 @@ ends_of_same lo hi everything everything (no_bounds e) h k = no_bounds e
 ends_of_same lo hi (between a b) everything (bounds e f) h k = absurd k.ends
 ends_of_same lo hi everything (between c d) (no_bounds e) h k = absurd h.ends
 
--- an open comparison, by the hull of its sides
+-- an undecided comparison, by the hull of its sides
 pub open_comparison : (i j k : Interval) (lo hi : ℤ) → None ≡ compare_at i j → AreEnds lo hi k → hull i j ⊆ k → k ⊆ hull i j → IsOpenComparison i j lo hi
 open_comparison i j k lo hi e h there back = record { open_there = sym e; ends = ends_of_same lo hi k (hull i j) h back there }

@@ -1,4 +1,4 @@
--- The clauses on widths at a scale of which nothing is promised, and ends that are moved outwards.
+-- The clauses on widths at a scale of which nothing is promised, and endpoints that are moved outwards.
 use Rattle.std.proofs.Common.{ℕ, zero, suc, arith, ℤ, pos, negsuc, ◌≤ℤ◌}
 use Rattle.std.proofs.Math.Dec.{leb-suc-zero}
 use Rattle.std.proofs.lemmas.Int.{ints}
@@ -11,7 +11,7 @@ use Rattle.book_model.specs.numbers.Relations.{Narrow, Keeps}
 use Rattle.interval_ends.specs.Rounding.{at_36, Keeps64}
 use Rattle.interval_ends.proofs.Keeping.{kept_within}
 
--- ends that are further out hold what lies between two
+-- endpoints that are further out hold what lies between two
 pub moved_outwards : (a b lo hi : ℤ) (i : Interval) → lo ≤ℤ a → b ≤ℤ hi → Keeps64 lo hi i → between (at_36 a) (at_36 b) ⊆ i
 moved_outwards a b lo hi i l h k = within_trans (record { ends = (record { cross = omega (arith, ints, l) }, record { cross = omega (arith, ints, h) }) })
     (kept_within _ lo hi i k)
@@ -139,7 +139,7 @@ pub narrow_remainder : {E : Type 0} (shown : E → Interval) (r : Reach) (m : �
 unfolding Keeps bound_of limits_of
 narrow_remainder shown r m x q e = record { kept = remainder_none r.width m _ _ }
 
--- the same of ends
+-- the same of endpoints
 pub narrow_ends : (w : ℕ) (b : Bound) (i : Interval) → IsNarrow w (spanned_bound (limits_of 8) b) i
 unfolding limits_of
 narrow_ends w b i = spanned_none w b i

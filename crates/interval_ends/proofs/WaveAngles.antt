@@ -1,4 +1,4 @@
--- The angle of a wave at scale 2^-36: a phase and a rate times the days, by one quotient at each end.
+-- The angle of a periodic term at scale 2^-36: a phase and a rate times the days, by one quotient at each endpoint.
 use Rattle.interval_ends.specs.Scales.{coarse}
 use Rattle.std.proofs.Common.{◌≡◌, ℕ, ◌^◌, refl, arith, ℤ, pos, ◌+ℤ◌, ◌*ℤ◌, ◌≤ℤ◌, ◌<ℤ◌}
 use lib.IntN.{neg_ℤ}
@@ -22,7 +22,7 @@ D = pos 365250000000
 abbrev K : ℤ
 K = pos 2509978887782400
 
--- lo and hi are the phase and the rate times the ends x and y, rounded outwards
+-- lo and hi are the phase and the rate times the endpoints x and y, rounded outwards
 pub record AreTurned (phase rate x y p q m g lo hi : ℤ) : Type 0 where
   pub first : p ≡ phase *ℤ pos 2509978887782400 +ℤ x *ℤ rate
   pub second : q ≡ phase *ℤ pos 2509978887782400 +ℤ y *ℤ rate
@@ -30,7 +30,7 @@ pub record AreTurned (phase rate x y p q m g lo hi : ℤ) : Type 0 where
   pub down : IsFloor lo m (pos 365250000000)
   pub up : IsCeiling hi g (pos 365250000000)
 
--- the phase and the rate times a number that counts 2^-36
+-- the phase and the rate times a number in units of 2^-36
 abbrev at_angle : (phase rate z : ℤ) → Fraction
 at_angle phase rate z = plus (ten_millionths phase) (times (at_36 z) (daily_ten_millionths rate))
 
@@ -45,7 +45,7 @@ angle_below phase rate z hi h = record { cross = omega (arith, ints, h) }
 pub turned_order : (phase rate x y p q m g lo hi : ℤ) → AreTurned phase rate x y p q m g lo hi → lo ≤ℤ hi
 turned_order phase rate x y p q m g lo hi t = outward_order m g D lo hi (sorted_order m g p q t.order) t.down t.up (omega (arith, ints))
 
--- the ends hold the angle
+-- the endpoints hold the angle
 pub turned_encloses : (phase rate x y p q m g lo hi : ℤ) (i : Interval) → AreTurned phase rate x y p q m g lo hi → Keeps64 lo hi i
     → sum (between (ten_millionths phase) (ten_millionths phase))
     (product (between (at_36 x) (at_36 y)) (between (daily_ten_millionths rate) (daily_ten_millionths rate))) ⊆ i
@@ -92,7 +92,7 @@ least_turned phase rate x y p q m g lo hi t = t.order.best_low _ (omega (arith, 
 greatest_turned : (phase rate x y p q m g lo hi : ℤ) → AreTurned phase rate x y p q m g lo hi → g ≤ℤ (phase *ℤ K +ℤ int_max (x *ℤ rate) (y *ℤ rate))
 greatest_turned phase rate x y p q m g lo hi t = t.order.best_high _ (omega (arith, ints, clamps, t.first)) (omega (arith, ints, clamps, t.second))
 
--- the ends keep the bound of the phase and the product
+-- the endpoints keep the bound of the phase and the product
 pub turned_narrow : (w : ℕ) (a : Bound) (phase rate x y p q m g lo hi : ℤ) (i : Interval) → AreTurned phase rate x y p q m g lo hi → Keeps64 lo hi i
     → IsNarrow w a (between (at_36 x) (at_36 y))
     → IsNarrow w (sum_bound limits_36 (constant_bound limits_36 (ten_millionths phase)) (scaled_bound limits_36 (daily_ten_millionths rate) a)) i

@@ -1,4 +1,4 @@
--- Hulls and widenings of ends at a scale keep their bounds.
+-- Hulls and widenings of endpoints at a scale keep their bounds.
 use Rattle.interval_ends.specs.Scales.{Scale, coarse, fine, at_scale, unit, limits_on, slack, span, grain}
 use Rattle.std.proofs.Common.{◌≡◌, ℕ, suc, ◌+◌, ◌*◌, ◌^◌, ◌<◌, refl, sym, arith, Bool, true, false, ◌&&◌, nat_lt, ℤ, pos, ◌+ℤ◌, ◌*ℤ◌, ◌-ℤ◌, ◌≤ℤ◌, ◌<ℤ◌, [], ◌∷◌, subst}
 use Rattle.std.specs.Prelude.{unsigned_abs}

@@ -1,5 +1,5 @@
--- Ends at a scale that keep the bounds of differences, opposites, the lesser and the greater, remainders, and
--- of ends that count 2^-56.
+-- Endpoints at a scale that keep the bounds of differences, opposites, the lesser and the greater,
+-- remainders, and of endpoints in units of 2^-56.
 use Rattle.interval_ends.specs.Scales.{Scale, coarse, fine, at_scale, unit, limits_on, slack, finer_units, most_size}
 use Rattle.std.proofs.Common.{◌≡◌, ℕ, suc, ◌+◌, ◌*◌, ◌-◌, ◌^◌, ◌≤◌, ◌<◌, max, refl, sym, arith, Bool, true, false, neg_ℤ, ℤ, pos, ◌+ℤ◌, ◌*ℤ◌, ◌-ℤ◌, ◌≤ℤ◌, ◌<ℤ◌, int_eq, Some}
 use Rattle.std.specs.Int.{int_max, int_min}
@@ -176,7 +176,7 @@ maximum_with_all w unbounded y i h = tt
 maximum_with_all w (bounded a b s k) unbounded i h = tt
 maximum_with_all w (bounded a b s k) (bounded c d t m) i h = absurd h
 
--- ---- ends that count 2^-56
+-- ---- endpoints in units of 2^-56
 pub span_encloses : (scale : Scale) → (a b lo hi : ℤ) (i : Interval) → IsFloor lo a (finer_units scale) → IsCeiling hi b (finer_units scale)
     → ShowsEnds scale lo hi i → between (units_of_56 a) (units_of_56 b) ⊆ i
 span_encloses coarse a b lo hi i l u k = within_trans (record
@@ -213,7 +213,7 @@ spanned_narrow fine w (bounded a b s k) x y lo hi i l u v h = limited_narrow fin
     (spanned_kept fine a b s k w x y lo hi l u h) v
 
 -- ---- remainders
--- the period that is known holds both ends
+-- the period that is known holds both endpoints
 equal_cells : (t : Bool) (p q r : ℤ) → t ≡ int_eq p q → when t p ≡ Some r → (p ≡ r) × (q ≡ r)
 equal_cells true p q r e h = let f : p ≡ q = same_cells (sym e) in (cc, cc)
   where

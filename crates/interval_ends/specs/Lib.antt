@@ -1,4 +1,4 @@
--- of rounded_quotients, given on
+-- of rounded_quotients, re-exported
 pub use Rattle.rounded_quotients.specs.Rounding as WholeRounding
 pub use Rattle.rounded_quotients.specs.Units
 pub mod Scales

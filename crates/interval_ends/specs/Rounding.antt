@@ -1,11 +1,11 @@
--- Ends that fit in 64 bits, and quotients of ends, over plain numbers.
+-- Endpoints that fit in 64 bits, and quotients of endpoints, over plain numbers.
 use Rattle.std.specs.Prelude.{◌≡◌, cond, int_le, ◌⊎◌, ℤ, pos, ◌+ℤ◌, ◌-ℤ◌, ◌*ℤ◌, ◌≤ℤ◌, ◌<ℤ◌, ◌+◌, unsigned_abs, FitsSigned}
 use Rattle.book_model.specs.Fraction.{Fraction}
 use Rattle.interval_ends.specs.Scales.{Scale, coarse, at_scale, unit, word}
 use Rattle.book_model.specs.Interval.{Interval, everything, between}
 use Rattle.rounded_quotients.specs.Rounding.{IsCeiling}
 
--- a number that counts 2^-36
+-- a number in units of 2^-36
 abbrev pub at_36 : ℤ → Fraction
 at_36 n = at_scale coarse n
 
@@ -13,12 +13,12 @@ at_36 n = at_scale coarse n
 pub record IsMarginAt (scale : Scale) (f : Fraction) (m : ℤ) : Type 0 where
   pub rounded : IsCeiling m (pos (unsigned_abs f.num) *ℤ unit scale) (pos (f.below + 1))
 
--- the interval that two ends show in the scale's bits: just theirs where both fit, and else everything
+-- the interval that two endpoints show in the scale's bits: just theirs where both fit, and else everything
 pub data ShowsEnds (scale : Scale) (lo hi : ℤ) : Interval → Type 0 where
   fitting : ShowsEnds scale lo hi (between (at_scale scale lo) (at_scale scale hi))
   too_large : (FitsSigned (word scale) lo → FitsSigned (word scale) hi → ⊥) → ShowsEnds scale lo hi everything
 
--- the same of ends in 64 bits
+-- the same of endpoints in 64 bits
 abbrev pub Keeps64 : (lo hi : ℤ) → Interval → Type 0
 Keeps64 lo hi i = ShowsEnds coarse lo hi i
 

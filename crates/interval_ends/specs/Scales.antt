@@ -1,4 +1,4 @@
--- The scales of ends: coarse ones of 64 bits, which count 2^-36, and fine ones of 128 bits, which count 2^-56.
+-- The scales of endpoints: coarse ones of 64 bits, in units of 2^-36, and fine ones of 128 bits, in units of 2^-56.
 use Rattle.std.specs.Prelude.{ℕ, ◌-◌, ◌^◌, ℤ, pos}
 use Rattle.std.specs.Int.{Width, w64, w128}
 use Rattle.book_model.specs.Fraction.{Fraction}
@@ -27,7 +27,7 @@ abbrev pub below : Scale → ℕ
 below coarse = 2 ^ 36 - 1
 below fine = 2 ^ 56 - 1
 
--- a number that counts the scale's units
+-- a number in the scale's units
 abbrev pub at_scale : Scale → ℤ → Fraction
 at_scale coarse n = record { num = n; below = 2 ^ 36 - 1 }
 at_scale fine n = record { num = n; below = 2 ^ 56 - 1 }
@@ -70,7 +70,7 @@ abbrev pub finer_units : Scale → ℤ
 finer_units coarse = pos (2 ^ 20)
 finer_units fine = pos 1
 
--- the bits of an end
+-- the bits of an endpoint
 abbrev pub word : Scale → Width
 word coarse = w64
 word fine = w128

@@ -1,4 +1,4 @@
-//! The tests on ends.
+//! The tests on endpoints.
 ghost use Rattle.std.specs.Prelude.{◌≡◌, IfSome, IsNone, Some, None};
 ghost use Rattle.book_model.specs.programs.Programs.{integers, cell_at, compare_at};
 ghost use Rattle.book_model.specs.programs.Leading.{AreEnds};
@@ -8,7 +8,7 @@ use crate::ends::Ends;
 use crate::word::MachineWord;
 use book_model::{Site, Undecided};
 
-/// The greatest whole number that is not above the ends, where both have the same.
+/// The greatest whole number that is not above the endpoints, where both have the same.
 #[inline]
 pub fn cell_of_ends<I: MachineWord>(ends: Option<Ends<I>>) -> Option<I>
     ensures value { IfSome result (λ q. cell_at integers (shown_ends ends) ≡ Some (I.value q)) }
@@ -23,9 +23,9 @@ pub fn cell_of_ends<I: MachineWord>(ends: Option<Ends<I>>) -> Option<I>
     }
 }
 
-// An undecided result tells the ends at which the test was found open, and the clause on it says
-// that it is: so a body that gives up at once is refused.
-/// An open test at these ends, which count 2⁻⁵⁶ in it.
+// An undecided result tells the endpoints at which the test was found undecided, and its clause says that the test is
+// undecided at these: so a body that gives up at once is refused.
+/// An undecided test at these endpoints, which it tells in units of 2⁻⁵⁶.
 pub fn open_at<I: MachineWord>(ends: Option<Ends<I>>, site: Site, turn: u32) -> Undecided
     ensures named { (result.site ≡ site) × (result.turn ≡ turn) }
     ensures ends { AreEnds result.lo result.hi (shown_ends ends) }
@@ -46,7 +46,7 @@ pub fn open_at<I: MachineWord>(ends: Option<Ends<I>>, site: Site, turn: u32) -> 
     }
 }
 
-/// Whether each number between the first ends is below each between the second, where that is so of all or of none.
+/// Whether each number between the first endpoints is below each between the second, where that is so of all or of none.
 #[inline]
 pub fn order_of_ends<I: MachineWord>(x: Option<Ends<I>>, y: Option<Ends<I>>) -> Option<bool>
     ensures value { result ≡ compare_at (shown_ends x) (shown_ends y) }

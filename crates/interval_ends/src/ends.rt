@@ -1,10 +1,10 @@
-//! Two ends in order.
+//! Two endpoints in order.
 ghost use Rattle.std.specs.Prelude.{◌≡◌, ◌≤ℤ◌};
 
 use crate::word::MachineWord;
 use std::alloc::AllocError;
 
-/// Two ends in order, which count the units of their word's scale.
+/// Two endpoints in order, which count the units of their word's scale.
 #[derive(Debug, PartialEq)]
 pub struct Ends<I: MachineWord> {
     pub lo: I,

@@ -1,4 +1,4 @@
-//! Fractions, and products of ends with fractions, rounded outwards.
+//! Fractions, and products of endpoints with fractions, rounded outwards.
 //!
 //! Inlined where a caller's fraction is a constant: by a denominator that the compiler knows, a quotient is a
 //! multiplication.
@@ -27,7 +27,7 @@ pub fn denominator(fraction: Frac) -> i128
     i128::from(fraction.den().max(1))
 }
 
-/// The ends around a fraction, whose numerator is raised to the scale first.
+/// The endpoints around a fraction, whose numerator is raised to the scale first.
 #[inline(always)]
 pub fn ends_of_fraction<I: MachineWord>(value: Frac) -> Option<Ends<I>>
     ensures holds { between (fraction_of value) (fraction_of value) ⊆ shown_ends result }
@@ -40,7 +40,7 @@ pub fn ends_of_fraction<I: MachineWord>(value: Frac) -> Option<Ends<I>>
     ends_of(floor_div(raised, below), ceil_div(raised, below))
 }
 
-/// The ends around the products with a fraction.
+/// The endpoints around the products with a fraction.
 #[inline(always)]
 pub fn scale_ends<I: MachineWord>(x: Option<Ends<I>>, by: Frac) -> Option<Ends<I>>
     ensures holds { product (shown_ends x) (between (fraction_of by) (fraction_of by))
@@ -73,7 +73,7 @@ fn margin_of<I: MachineWord>(by: Frac) -> Option<i128>
     Some(ceil_div(raised, denominator(by)))
 }
 
-/// The ends, each moved outwards by so many units, where both fit.
+/// The endpoints, each moved outwards by so many units, where both fit.
 #[inline(always)]
 fn moved<I: MachineWord>(x: Ends<I>, margin: i128) -> Option<Ends<I>>
     requires { pos 0 ≤ℤ margin }
@@ -84,7 +84,7 @@ fn moved<I: MachineWord>(x: Ends<I>, margin: i128) -> Option<Ends<I>>
     Some(Ends { lo, hi })
 }
 
-/// The ends, each moved outwards by the size of a fraction.
+/// The endpoints, each moved outwards by the size of a fraction.
 #[inline]
 pub fn widen_ends<I: MachineWord>(x: Option<Ends<I>>, by: Frac) -> Option<Ends<I>>
     ensures holds { widen (fraction_of by) (shown_ends x) ⊆ shown_ends result }

@@ -1,4 +1,4 @@
-//! Numbers that count 2⁻⁵⁶: of one, of a day, of a degree.
+//! Numbers in units of 2⁻⁵⁶: of one, of a day, of a degree.
 
 /// One, a day, or a degree.
 pub const ONE: i128 = 1 << 56;

@@ -1,4 +1,4 @@
-//! The lesser and the greater of ends, their hull, and ends that are cut to -1..1.
+//! The lesser and the greater of endpoints, their hull, and endpoints that are cut to -1..1.
 ghost use Rattle.std.specs.Prelude.{◌≡◌, ℕ, neg_ℤ};
 ghost use Rattle.std.specs.Int.{int_min, int_max};
 ghost use Rattle.book_model.specs.Interval.{everything, between, ◌⊆◌, minimum, maximum, hull, clamp};
@@ -9,7 +9,7 @@ ghost use Rattle.interval_ends.specs.Shown.{shown_ends, shown_of};
 use crate::ends::Ends;
 use crate::word::MachineWord;
 
-/// The lesser of each two ends.
+/// The lesser of each two endpoints.
 #[inline]
 pub fn min_ends<I: MachineWord>(x: Option<Ends<I>>, y: Option<Ends<I>>) -> Option<Ends<I>>
     ensures holds { minimum (shown_ends x) (shown_ends y) ⊆ shown_ends result }
@@ -24,7 +24,7 @@ pub fn min_ends<I: MachineWord>(x: Option<Ends<I>>, y: Option<Ends<I>>) -> Optio
     Some(Ends { lo, hi })
 }
 
-/// The greater of each two ends.
+/// The greater of each two endpoints.
 #[inline]
 pub fn max_ends<I: MachineWord>(x: Option<Ends<I>>, y: Option<Ends<I>>) -> Option<Ends<I>>
     ensures holds { maximum (shown_ends x) (shown_ends y) ⊆ shown_ends result }
@@ -39,7 +39,7 @@ pub fn max_ends<I: MachineWord>(x: Option<Ends<I>>, y: Option<Ends<I>>) -> Optio
     Some(Ends { lo, hi })
 }
 
-/// The lesser lower and the greater upper end.
+/// The lesser lower and the greater upper endpoint.
 #[inline]
 pub fn hull_ends<I: MachineWord>(x: Option<Ends<I>>, y: Option<Ends<I>>) -> Option<Ends<I>>
     ensures holds { hull (shown_ends x) (shown_ends y) ⊆ shown_ends result }
@@ -54,7 +54,7 @@ pub fn hull_ends<I: MachineWord>(x: Option<Ends<I>>, y: Option<Ends<I>>) -> Opti
     Some(Ends { lo, hi })
 }
 
-/// An end, cut to -1..1.
+/// An endpoint, cut to -1..1.
 #[inline(always)]
 fn cut<I: MachineWord>(end: I) -> I
     ensures value { I.value result ≡ int_max (int_min (I.value end) (unit I.scale))
@@ -63,7 +63,7 @@ fn cut<I: MachineWord>(end: I) -> I
     end.lesser(I::one()).greater(I::minus_one())
 }
 
-/// Ends that are cut to -1..1.
+/// Endpoints that are cut to -1..1.
 #[inline(always)]
 fn cut_ends<I: MachineWord>(x: Ends<I>) -> Ends<I>
     ensures lo { I.value result.lo ≡ int_max (int_min (I.value x.lo) (unit I.scale))
@@ -76,7 +76,7 @@ fn cut_ends<I: MachineWord>(x: Ends<I>) -> Ends<I>
     Ends { lo, hi }
 }
 
-/// Both ends of -1..1.
+/// Both endpoints of -1..1.
 #[inline(always)]
 fn unit_ends<I: MachineWord>() -> Ends<I>
     ensures holds { clamp everything ⊆ shown_of result }
@@ -86,7 +86,7 @@ fn unit_ends<I: MachineWord>() -> Ends<I>
     Ends { lo, hi }
 }
 
-/// The ends, cut to -1..1; just these, where there are none.
+/// The endpoints, cut to -1..1; just these, where there are none.
 #[inline]
 pub fn clamp_ends<I: MachineWord>(x: Option<Ends<I>>) -> Ends<I>
     ensures holds { clamp (shown_ends x) ⊆ shown_of result }

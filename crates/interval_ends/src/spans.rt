@@ -1,4 +1,4 @@
-//! Ends that count 2⁻⁵⁶, and those that count units, from one another.
+//! Endpoints in units of 2⁻⁵⁶, and those in units of a word's scale, from one another.
 ghost use Rattle.std.specs.Prelude.{◌≡◌, ℕ, ◌≤ℤ◌, IfSome, IsNone};
 ghost use Rattle.book_model.specs.Interval.{◌⊆◌, between, everything};
 ghost use Rattle.book_model.specs.numbers.Bounds.{Bound, IsNarrow, spanned_bound};
@@ -10,7 +10,7 @@ use crate::ends::Ends;
 use crate::sums::ends_of;
 use crate::word::MachineWord;
 
-/// The ends around those that count 2⁻⁵⁶.
+/// The endpoints around those in units of 2⁻⁵⁶.
 #[inline(always)]
 pub fn ends_of_span<I: MachineWord>(lo: i128, hi: i128) -> Option<Ends<I>>
     requires { lo ≤ℤ hi }
@@ -23,7 +23,7 @@ pub fn ends_of_span<I: MachineWord>(lo: i128, hi: i128) -> Option<Ends<I>>
     ends_of(down, up)
 }
 
-/// The ends, as they count 2⁻⁵⁶.
+/// The endpoints, in units of 2⁻⁵⁶.
 #[inline]
 pub fn ends_at_fine_scale<I: MachineWord>(ends: Option<Ends<I>>) -> Option<(i128, i128)>
     ensures ordered { IfSome result (λ s. s.0 ≤ℤ s.1) }

@@ -1,7 +1,7 @@
-//! Sums and differences of ends. No ends stand for every number.
+//! Sums and differences of endpoints. No endpoints stand for every number.
 //!
-//! The innermost functions say equations on ends (`HasEnds`), and one lemma leads from there to intervals and bounds.
-//! That ends are the best that a word can say no caller needs, and it isn't stated.
+//! The innermost functions say equations on endpoints (`HasEnds`), and one lemma leads from there to intervals and
+//! bounds. That endpoints are the best that a word can say no caller needs, and it isn't stated.
 ghost use Rattle.std.specs.Prelude.{ℕ, pos, ◌+ℤ◌, ◌-ℤ◌, ◌≤ℤ◌, IfSome};
 ghost use Rattle.book_model.specs.Fraction.{whole as whole_number};
 ghost use Rattle.book_model.specs.Interval.{◌⊆◌, sum, difference, negative, between};
@@ -12,8 +12,8 @@ ghost use Rattle.interval_ends.specs.Shown.{shown_ends, HasEnds};
 use crate::ends::Ends;
 use crate::word::MachineWord;
 
-// It asks for ends in order, since `Ends` says that they are by its type.
-/// The ends of so many units, where both fit.
+// It asks for endpoints in order, since `Ends` says that they are by its type.
+/// The endpoints of so many units, where both fit.
 #[inline(always)]
 pub fn ends_of<I: MachineWord>(lo: i128, hi: i128) -> Option<Ends<I>>
     requires { lo ≤ℤ hi }
@@ -24,7 +24,7 @@ pub fn ends_of<I: MachineWord>(lo: i128, hi: i128) -> Option<Ends<I>>
     Some(Ends { lo, hi })
 }
 
-/// The ends of a whole number.
+/// The endpoints of a whole number.
 #[inline]
 pub fn int_ends<I: MachineWord>(value: i64) -> Option<Ends<I>>
     ensures holds { between (whole_number value) (whole_number value) ⊆ shown_ends result }
@@ -35,7 +35,7 @@ pub fn int_ends<I: MachineWord>(value: i64) -> Option<Ends<I>>
     Some(Ends { lo: at, hi: at })
 }
 
-/// The sums of two ends each, where both fit.
+/// The sums of two endpoints each, where both fit.
 #[inline(always)]
 fn sums<I: MachineWord>(x: Ends<I>, y: Ends<I>) -> Option<Ends<I>>
     ensures ends { HasEnds (I.value x.lo +ℤ I.value y.lo) (I.value x.hi +ℤ I.value y.hi) result }
@@ -45,7 +45,7 @@ fn sums<I: MachineWord>(x: Ends<I>, y: Ends<I>) -> Option<Ends<I>>
     Some(Ends { lo, hi })
 }
 
-/// The differences of two ends each, where both fit.
+/// The differences of two endpoints each, where both fit.
 #[inline(always)]
 fn differences<I: MachineWord>(x: Ends<I>, y: Ends<I>) -> Option<Ends<I>>
     ensures ends { HasEnds (I.value x.lo -ℤ I.value y.hi) (I.value x.hi -ℤ I.value y.lo) result }
@@ -55,7 +55,7 @@ fn differences<I: MachineWord>(x: Ends<I>, y: Ends<I>) -> Option<Ends<I>>
     Some(Ends { lo, hi })
 }
 
-/// The opposites of two ends, in the other order, where both fit.
+/// The opposites of two endpoints, in the other order, where both fit.
 #[inline(always)]
 fn opposites<I: MachineWord>(x: Ends<I>) -> Option<Ends<I>>
     ensures ends { HasEnds (pos 0 -ℤ I.value x.hi) (pos 0 -ℤ I.value x.lo) result }
@@ -65,7 +65,7 @@ fn opposites<I: MachineWord>(x: Ends<I>) -> Option<Ends<I>>
     Some(Ends { lo, hi })
 }
 
-/// The sums of the ends.
+/// The sums of the endpoints.
 #[inline]
 pub fn add_ends<I: MachineWord>(x: Option<Ends<I>>, y: Option<Ends<I>>) -> Option<Ends<I>>
     ensures holds { sum (shown_ends x) (shown_ends y) ⊆ shown_ends result }
@@ -80,7 +80,7 @@ pub fn add_ends<I: MachineWord>(x: Option<Ends<I>>, y: Option<Ends<I>>) -> Optio
     sums(x, y)
 }
 
-/// The differences of the ends.
+/// The differences of the endpoints.
 #[inline]
 pub fn sub_ends<I: MachineWord>(x: Option<Ends<I>>, y: Option<Ends<I>>) -> Option<Ends<I>>
     ensures holds { difference (shown_ends x) (shown_ends y) ⊆ shown_ends result }
@@ -95,7 +95,7 @@ pub fn sub_ends<I: MachineWord>(x: Option<Ends<I>>, y: Option<Ends<I>>) -> Optio
     differences(x, y)
 }
 
-/// The opposites of the ends, in the other order.
+/// The opposites of the endpoints, in the other order.
 #[inline]
 pub fn neg_ends<I: MachineWord>(x: Option<Ends<I>>) -> Option<Ends<I>>
     ensures holds { negative (shown_ends x) ⊆ shown_ends result }

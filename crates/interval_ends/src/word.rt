@@ -14,7 +14,7 @@ use rounded_quotients::{ceil_div, floor_div};
 /// A whole number of so many bits, which counts the units of a scale.
 pub trait MachineWord: Copy + Drop {
     /// The scale.
-    // Ghost members, so that a lemma on ends takes the scale as an argument. The limits below which
+    // Ghost members, so that a lemma on endpoints takes the scale as an argument. The limits below which
     // an operation keeps its bound are a function of its bits (`limits_at`), proved for these two.
     ghost scale: { Scale };
 
@@ -109,15 +109,15 @@ pub trait MachineWord: Copy + Drop {
         ensures none { IsNone result → ¬ FitsSigned (word scale)
             (value self -ℤ ((pos modulus *ℤ value period) *ℤ unit scale)) };
 
-    /// The same number, which counts 2⁻⁵⁶.
+    /// The same number in units of 2⁻⁵⁶.
     fn at_fine_scale(self) -> i128
         ensures value { result ≡ value self *ℤ finer_units scale };
 
-    /// A number that counts 2⁻⁵⁶ as one that counts units, rounded down.
+    /// A number in units of 2⁻⁵⁶ as one in units of the scale, rounded down.
     fn floor_of_fine(finer: i128) -> i128
         ensures floor { IsFloor result finer (finer_units scale) };
 
-    /// A number that counts 2⁻⁵⁶ as one that counts units, rounded up.
+    /// A number in units of 2⁻⁵⁶ as one in units of the scale, rounded up.
     fn ceil_of_fine(finer: i128) -> i128
         ensures ceiling { IsCeiling result finer (finer_units scale) };
 }

@@ -1,4 +1,4 @@
-//! The periods of ends.
+//! The periods of endpoints.
 ghost use Rattle.std.specs.Prelude.{◌≡◌, ◌<◌, ◌-◌, ◌*ℤ◌, ℕ, pos, Some, None, IfSome, IsNone};
 ghost use Rattle.book_model.specs.Fraction.{whole as whole_number, floor_quotient};
 ghost use Rattle.book_model.specs.Interval.{◌⊆◌, difference, between};
@@ -10,7 +10,7 @@ ghost use Rattle.interval_ends.specs.Shown.{shown_ends};
 use crate::ends::Ends;
 use crate::word::MachineWord;
 
-/// The number of the period in which the ends lie, where both lie in the same.
+/// The number of the period in which the endpoints lie, where both lie in the same.
 #[inline]
 pub fn period_of_ends<I: MachineWord>(ends: Option<Ends<I>>, modulus: u32) -> Option<I>
     requires { 0 < modulus }
@@ -27,9 +27,9 @@ pub fn period_of_ends<I: MachineWord>(ends: Option<Ends<I>>, modulus: u32) -> Op
     }
 }
 
-// It asks for the period in which the ends lie, so that the test is made once, by the step that
-// counts it.
-/// The ends, each moved down to the first period, from that in which both lie.
+// It asks for the period in which the endpoints lie, so that the test is made once, by the step
+// that counts it.
+/// The endpoints, each moved down to the first period, from that in which both lie.
 #[inline]
 pub fn rest_of_period<I: MachineWord>(
     ends: Option<Ends<I>>,

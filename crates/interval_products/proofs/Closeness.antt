@@ -1,4 +1,4 @@
--- How far apart the ends are that are rounded outwards.
+-- How far apart the endpoints are that are rounded outwards.
 use Rattle.std.proofs.Common.{◌≡◌, ℕ, ◌<◌, arith, refl, int_le, ℤ, pos, negsuc, ◌+ℤ◌, ◌*ℤ◌, ◌-ℤ◌, ◌≤ℤ◌, ◌<ℤ◌, ◌⊎◌, inl, inr, [], ◌∷◌}
 use Rattle.std.proofs.lemmas.Int.{ints}
 use lib.Signed.{≤ℤ_refl}
@@ -27,7 +27,7 @@ four_corners x y c d p q r s u g ep eq er es a b e f = record {
   best_greatest = rw (ep, eq, er, es) at f;
 }
 
--- of numbers that are not below 0 they are those of the lesser and of the greater ends
+-- of numbers that are not below 0 they are those of the lesser and of the greater endpoints
 pub natural_corners : (x y c d u g : ℤ) → x ≤ℤ y → c ≤ℤ d → pos 0 ≤ℤ x → pos 0 ≤ℤ c → u ≡ x *ℤ c → g ≡ y *ℤ d → AreCorners u g x y c d
 natural_corners x y c d u g o q h k e f =
     let i : pos 0 ≤ℤ y = omega (arith, ints, h, o) in
@@ -76,7 +76,7 @@ square_close coarse x y u g lo hi o e best f t = let n = squares_close x y u g o
 square_close fine x y u g lo hi o e best f t = let n = squares_close x y u g o e best in omega (arith, ints, n, f.close, t.close)
 
 -- ---- quotients
--- the least size of a divisor above 0 is at most its lower end
+-- the least size of a divisor above 0 is at most its lower endpoint
 least_above : (m : ℕ) (c d : ℤ) → pos 0 <ℤ c → c ≤ℤ d → 0 < m → (pos m ≤ℤ c) ⊎ (d ≤ℤ (pos 0 -ℤ pos m)) → pos m ≤ℤ c
 least_above m c d h o z (inl l) = l
 least_above m c d h o z (inr l) = absurd (omega (arith, ints, h, o, z, l))
@@ -109,7 +109,7 @@ cancelled : (scale : Scale) (p q : ℤ) → (p *ℤ unit scale) ≤ℤ (q *ℤ u
 cancelled coarse p q h = omega (arith, ints, h)
 cancelled fine p q h = omega (arith, ints, h)
 
--- e is the distance of the roots less two, r the lower one, v and z the width and the lower end of the number
+-- e is the distance of the roots less two, r the lower one, v and z the width and the lower endpoint of the number
 root_wide : (scale : Scale) (e r v z : ℤ) → pos 0 ≤ℤ e → pos 0 ≤ℤ r → pos 0 ≤ℤ v → (z *ℤ unit scale) ≤ℤ (r *ℤ r) → (pos 2 *ℤ (e *ℤ r)) ≤ℤ (v *ℤ unit scale)
     → (pos 4 *ℤ ((e *ℤ e) *ℤ z)) ≤ℤ ((v *ℤ v) *ℤ unit scale)
 root_wide scale e r v z he hr hv hz hw =

@@ -13,7 +13,7 @@ use Rattle.interval_ends.proofs.Keeping.{AreKept, kept_of, both}
 use Rattle.interval_ends.proofs.Products.{IsBounded, corner_sized, sized, ceil_above}
 use Rattle.interval_products.specs.Room.{HaveProducts, IsDividend, HasQuotient, HasFineQuotient, HaveQuotients, HaveFineQuotients, HaveOpposites, HaveQuotientsBy, HasRoot}
 
--- an end may be divided, and so may its opposite
+-- an endpoint may be divided, and so may its opposite
 pub end_divides : (scale : Scale) (n a : ℤ) → SFits (word scale) n → a ≡ n → IsDividend scale a
 end_divides coarse n a f e = record { above = omega (arith, ints, f, e); below = omega (arith, ints, f, e) }
 end_divides fine n a f e = record { above = omega (arith, ints, f, e); below = omega (arith, ints, f, e) }
@@ -25,7 +25,7 @@ opposite_divides fine n a f e = record { above = omega (arith, ints, f, e); belo
 roomy : (A B Z : ℕ) (p : ℤ) → IsBounded p ((pos (2 ^ 24) *ℤ pos A) *ℤ (pos (2 ^ 24) *ℤ pos B)) → A * B ≤ Z * 2 ^ 32 → Z < 2 ^ 46 → SFits w128 p
 roomy A B Z p h k l = omega (arith, ints, h.above, h.below, k, l)
 
--- ends that keep a bound
+-- endpoints that keep a bound
 kept : (a b : ℤ) (s k w : ℕ) (x y : ℤ) → IsNarrow w (bounded a b s k) (between (at_scale fine x) (at_scale fine y)) → AreKept fine a b s k w x y
 unfolding IsNarrow
 kept a b s k w x y h = kept_of fine a b s k w x y h
@@ -138,7 +138,7 @@ pub by_negative : (scale : Scale) (x y c d : ℤ) → c ≤ℤ d → d <ℤ pos 
 by_negative scale x y c d o h (inl t) = absurd (let l = t.0 in omega (arith, ints, o, h, l))
 by_negative scale x y c d o h (inr t) = t.1
 
--- the lesser of two ends has a root where the greater has one
+-- the lesser of two endpoints has a root where the greater has one
 pub lesser_root : (scale : Scale) (x y : ℤ) → x ≤ℤ y → HasRoot scale y → HasRoot scale x
 lesser_root coarse x y o h = tt
 lesser_root fine x y o h = omega (arith, ints, o, h)

@@ -1,10 +1,10 @@
--- Where 128 bits have room for products, quotients and roots of ends: always for those of ends of 64 bits, and for those of
--- ends of 128 bits up to a size.
+-- Where 128 bits have room for products, quotients and roots of endpoints: always for those of endpoints of 64 bits, and
+-- for those of endpoints of 128 bits up to a size.
 use Rattle.std.specs.Prelude.{ℤ, pos, neg_ℤ, ◌^◌, ◌+ℤ◌, ◌-ℤ◌, ◌*ℤ◌, ◌≤ℤ◌, ◌<ℤ◌, ◌⊎◌, FitsSigned}
 use Rattle.std.specs.Int.{w128}
 use Rattle.interval_ends.specs.Scales.{Scale, coarse, fine}
 
--- a product of two ends
+-- a product of two endpoints
 abbrev pub HasProduct : Scale → ℤ → Type 0
 HasProduct coarse p = Unit {0}
 HasProduct fine p = FitsSigned w128 p
@@ -16,12 +16,12 @@ pub record HaveProducts (scale : Scale) (x y c d : ℤ) : Type 0 where
   pub third : HasProduct scale (y *ℤ c)
   pub fourth : HasProduct scale (y *ℤ d)
 
--- the greatest size of an end
+-- the greatest size of an endpoint
 abbrev pub most_end : Scale → ℤ
 most_end coarse = pos (2 ^ 63)
 most_end fine = pos (2 ^ 127)
 
--- a number that is an end, or the opposite of one
+-- a number that is an endpoint, or the opposite of one
 pub record IsDividend (scale : Scale) (n : ℤ) : Type 0 where
   pub above : (pos 0 -ℤ most_end scale) ≤ℤ n
   pub below : n ≤ℤ most_end scale
@@ -67,7 +67,7 @@ pub record HasParts (n d whole rest : ℤ) : Type 0 where
   pub from : (whole *ℤ d +ℤ rest) ≤ℤ (n *ℤ pos (2 ^ 56))
   pub to : (n *ℤ pos (2 ^ 56)) ≤ℤ (whole *ℤ d +ℤ rest)
 
--- a root of an end
+-- a root of an endpoint
 abbrev pub HasRoot : Scale → ℤ → Type 0
 HasRoot coarse n = Unit {0}
 HasRoot fine n = n <ℤ pos (2 ^ 70)

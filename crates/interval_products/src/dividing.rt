@@ -1,4 +1,4 @@
-//! Quotients of ends, rounded outwards.
+//! Quotients of endpoints, rounded outwards.
 ghost use Rattle.std.specs.Prelude.{ℕ, pos, ◌≤ℤ◌, ◌<ℤ◌, Some, IfSome, IsSome};
 ghost use Rattle.book_model.specs.Interval.{◌⊆◌, quotient};
 ghost use Rattle.book_model.specs.numbers.Bounds.{Bound, IsNarrow, quotient_bound};
@@ -29,7 +29,7 @@ fn greatest_by(b: i128, c: i128, d: i128) -> i128
     if b < 0 { d } else { c }
 }
 
-/// The ends around the quotients of the numbers from `a` to `b` by those from `c` to `d`, which are above 0.
+/// The endpoints around the quotients of the numbers from `a` to `b` by those from `c` to `d`, which are above 0.
 #[inline]
 fn quotients<I: RoundingWord>(a: i128, b: i128, c: i128, d: i128) -> Option<(i128, i128)>
     requires dividend { a ≤ℤ b }
@@ -45,7 +45,7 @@ fn quotients<I: RoundingWord>(a: i128, b: i128, c: i128, d: i128) -> Option<(i12
     Some((lo, hi))
 }
 
-/// The ends around the quotients by a divisor above 0.
+/// The endpoints around the quotients by a divisor above 0.
 #[inline]
 fn positive_quotients<I: RoundingWord>(x: Ends<I>, y: Ends<I>) -> Option<Ends<I>>
     requires { pos 0 <ℤ I.value y.lo }
@@ -63,7 +63,7 @@ fn positive_quotients<I: RoundingWord>(x: Ends<I>, y: Ends<I>) -> Option<Ends<I>
     ends_of(lo, hi)
 }
 
-/// The ends around the quotients by a divisor below 0: those of the opposites.
+/// The endpoints around the quotients by a divisor below 0: those of the opposites.
 #[inline]
 fn negative_quotients<I: RoundingWord>(x: Ends<I>, y: Ends<I>) -> Option<Ends<I>>
     requires { I.value y.hi <ℤ pos 0 }
@@ -79,7 +79,7 @@ fn negative_quotients<I: RoundingWord>(x: Ends<I>, y: Ends<I>) -> Option<Ends<I>
     ends_of(lo, hi)
 }
 
-/// The ends around the quotients; none, where the divisor may be 0.
+/// The endpoints around the quotients; none, where the divisor may be 0.
 #[inline]
 pub fn div_ends<I: RoundingWord>(x: Option<Ends<I>>, y: Option<Ends<I>>) -> Option<Ends<I>>
     ensures holds { quotient (shown_ends x) (shown_ends y) ⊆ shown_ends result }

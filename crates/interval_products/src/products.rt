@@ -1,4 +1,4 @@
-//! Products and squares of ends, rounded outwards.
+//! Products and squares of endpoints, rounded outwards.
 ghost use Rattle.std.specs.Prelude.{◌≡◌, ℕ, pos, ◌*ℤ◌, ◌≤ℤ◌, IfSome, IsSome};
 ghost use Rattle.book_model.specs.Interval.{◌⊆◌, product, power};
 ghost use Rattle.book_model.specs.numbers.Bounds.{Bound, IsNarrow, product_bound, power_bound};
@@ -11,7 +11,7 @@ ghost use Rattle.interval_products.specs.Close.{AreCorners, IsCloseProduct, IsCl
 use crate::word::RoundingWord;
 use interval_ends::{Ends, ends_of, greatest_of, least_of};
 
-/// The least and the greatest of the four products of the ends.
+/// The least and the greatest of the four products of the endpoints.
 #[inline]
 fn all_products<I: RoundingWord>(x: Ends<I>, y: Ends<I>) -> Option<(i128, i128)>
     ensures corners { IfSome result (λ m. AreCorners m.0 m.1 (I.value x.lo) (I.value x.hi)
@@ -27,7 +27,7 @@ fn all_products<I: RoundingWord>(x: Ends<I>, y: Ends<I>) -> Option<(i128, i128)>
 }
 
 // Most factors aren't below 0: two products and not four.
-/// The same, of ends that are not below 0.
+/// The same, of endpoints that are not below 0.
 #[inline]
 fn natural_products<I: RoundingWord>(x: Ends<I>, y: Ends<I>) -> Option<(i128, i128)>
     requires first { pos 0 ≤ℤ I.value x.lo }
@@ -42,7 +42,7 @@ fn natural_products<I: RoundingWord>(x: Ends<I>, y: Ends<I>) -> Option<(i128, i1
     Some((least, greatest))
 }
 
-/// The least and the greatest product of the ends.
+/// The least and the greatest product of the endpoints.
 #[inline]
 fn products<I: RoundingWord>(x: Ends<I>, y: Ends<I>) -> Option<(i128, i128)>
     ensures corners { IfSome result (λ m. AreCorners m.0 m.1 (I.value x.lo) (I.value x.hi)
@@ -60,7 +60,7 @@ fn products<I: RoundingWord>(x: Ends<I>, y: Ends<I>) -> Option<(i128, i128)>
     }
 }
 
-/// The ends around the products of the members.
+/// The endpoints around the products of the members.
 #[inline]
 pub fn mul_ends<I: RoundingWord>(x: Option<Ends<I>>, y: Option<Ends<I>>) -> Option<Ends<I>>
     ensures holds { product (shown_ends x) (shown_ends y) ⊆ shown_ends result }
@@ -76,7 +76,7 @@ pub fn mul_ends<I: RoundingWord>(x: Option<Ends<I>>, y: Option<Ends<I>>) -> Opti
     ends_of(I::floor_product(least), I::ceil_product(greatest))
 }
 
-/// The least square of a number between two ends whose squares are these.
+/// The least square of a number between two endpoints whose squares are these.
 #[inline(always)]
 fn least_square(lo: i128, hi: i128, low_square: i128, high_square: i128) -> i128
     requires low { low_square ≡ lo *ℤ lo }
@@ -92,7 +92,7 @@ fn least_square(lo: i128, hi: i128, low_square: i128, high_square: i128) -> i128
     }
 }
 
-/// The ends around the squares.
+/// The endpoints around the squares.
 #[inline]
 pub fn square_ends<I: RoundingWord>(x: Option<Ends<I>>) -> Option<Ends<I>>
     ensures holds { power (shown_ends x) 2 ⊆ shown_ends result }

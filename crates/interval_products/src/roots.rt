@@ -1,4 +1,4 @@
-//! Roots of ends, rounded outwards.
+//! Roots of endpoints, rounded outwards.
 //!
 //! Roots are whole numbers in the definition too: the greatest whose square is at most a number. What a root keeps of a
 //! width is squared on both sides, so that no root stands in the table of widths.
@@ -15,7 +15,7 @@ ghost use Rattle.interval_products.specs.Close.{IsCloseRoot, OfOne, ThereOfOne};
 use crate::word::RoundingWord;
 use interval_ends::{Ends, ends_of};
 
-/// The ends around the roots.
+/// The endpoints around the roots.
 #[inline]
 pub fn root_ends<I: RoundingWord>(x: Option<Ends<I>>) -> Option<Ends<I>>
     ensures holds { (n : ℕ) → DEPTH ≤ n → root_of n (shown_ends x) ⊆ shown_ends result }

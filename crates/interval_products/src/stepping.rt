@@ -1,4 +1,4 @@
-//! Quotients of numbers that count 2⁻⁵⁶, in two steps: the whole quotient, and that of what it leaves.
+//! Quotients of numbers in units of 2⁻⁵⁶, in two steps: the whole quotient, and that of what it leaves.
 ghost use Rattle.std.specs.Prelude.{pos, ◌^◌, ◌*ℤ◌, ◌<ℤ◌, IfSome, IsSome};
 ghost use Rattle.interval_ends.specs.WholeRounding.{IsFloor, IsCeiling};
 ghost use Rattle.interval_products.specs.Room.{HasFineQuotient, HasParts};

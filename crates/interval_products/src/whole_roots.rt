@@ -1,7 +1,7 @@
 //! Roots of whole numbers, rounded down.
 //!
 //! `isqrt` of std halves its range 64 times, with a product of 128 bits each time, and an arcsine takes two roots. A few
-//! steps of Newton's rule come to the same root in far less. What they come to isn't proved but tested, by one square: so a
+//! steps of Newton's rule reach the same root in far less. Their result isn't proved but tested, by one square: so a
 //! guess that is off costs time and never a digit.
 ghost use Rattle.std.specs.Prelude.{◌≤◌, ◌<◌, ◌+◌, ◌*◌, IsTrue};
 

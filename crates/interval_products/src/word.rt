@@ -2,7 +2,7 @@
 //!
 //! The rule for an operation, which corners are the least and the greatest, by which divisor, what a divisor below 0 or
 //! around 0 does, is code over this trait; a method is what differs from word to word. In 64 bits there is always room,
-//! so that the lemmas on want of room (`Room.antt`) are one line there.
+//! so that the lemmas on too little room (`Room.antt`) are one line there.
 ghost use Rattle.std.specs.Prelude.{◌≡◌, ◌<ℤ◌, ◌≤ℤ◌, ◌+ℤ◌, ◌-ℤ◌, ◌*ℤ◌, pos, IfSome, IsNone, FitsSigned};
 ghost use Rattle.book_model.specs.numbers.Roots.{natural_part};
 ghost use Rattle.interval_ends.specs.WholeRounding.{IsFloor, IsCeiling};

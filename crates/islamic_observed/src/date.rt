@@ -72,8 +72,8 @@ fn date_from_facts(day: i64, first: i64) -> IslamicDate
 }
 
 /// The date of a day (R.D.): the month that begins on the first day which the oracle has for the day, the months counted from the
-/// epoch. A day that its type doesn't hold stands at the nearest end; the other fields always fit. It stops where the oracle
-/// stops, at the one fact that is asked (Reingold and Dershowitz, Calendrical Calculations, chapter 18).
+/// epoch. A day that its type doesn't hold is clamped to the nearest bound; the other fields always fit. It returns early where
+/// the oracle does, at the one fact that is asked (Reingold and Dershowitz, Calendrical Calculations, chapter 18).
 ///
 /// ```
 /// let evaluator = Staged::new();
@@ -100,8 +100,8 @@ fn day_by(first: i64, day: i64) -> i64
 }
 
 /// The day (R.D.) of a date: the first day of the month which the oracle has, asked of a day about the month's middle, and the day
-/// of the month. The date needn't be one that the calendar has. It stops where the oracle stops, at the one fact that is asked
-/// (Reingold and Dershowitz, Calendrical Calculations, chapter 18).
+/// of the month. The date needn't be one that the calendar has. It returns early where the oracle does, at the one fact that is
+/// asked (Reingold and Dershowitz, Calendrical Calculations, chapter 18).
 ///
 /// ```
 /// let evaluator = Staged::new();

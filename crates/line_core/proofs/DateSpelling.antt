@@ -17,7 +17,7 @@ use Rattle.line_core.proofs.SpacedWords.{both}
 abbrev pub is_digit : ℕ → Bool
 is_digit b = nat_lt 47 b && nat_lt b 58
 
--- one to seven digits that spell a number, with zeros in front or not
+-- one to seven digits that spell a number, with leading zeros or without
 pub record IsNumeral (n : ℕ) (ds : List ℕ) : Type 0 where
   pub value : value_from 0 ds ≡ Some n
   pub some : 0 < length ds
@@ -49,7 +49,7 @@ numeral n h = record {
   few = length-decimal-le 7 n (omega arith) (omega arith) (omega arith);
 }
 
--- zeros in front change no number
+-- leading zeros change no number
 after_zeros : (zeros : ℕ) (ds : List ℕ) → value_from 0 (replicate zeros 48 ++ ds) ≡ value_from 0 ds
 after_zeros zero ds = refl
 after_zeros (suc zeros) ds = after_zeros zeros ds

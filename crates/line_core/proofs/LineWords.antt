@@ -7,7 +7,7 @@ use Rattle.std.proofs.lemmas.List.Sums.{passes_at_first, prefix_len-le-length}
 use Rattle.book_model.specs.lines.Lines.{is_blank, words_of, onto_first}
 use Rattle.line_core.proofs.DateText.{found_at, not_found}
 
--- how many blanks stand in front
+-- how many blanks come first
 abbrev pub blanks : List ℕ → ℕ
 blanks bs = position_or_len (λ b. not (is_blank b)) bs
 
@@ -15,7 +15,7 @@ blanks bs = position_or_len (λ b. not (is_blank b)) bs
 abbrev pub word_length : List ℕ → ℕ
 word_length bs = position_or_len is_blank bs
 
--- blanks in front change nothing
+-- leading blanks change nothing
 skip_blanks : (bs : List ℕ) → words_of bs ≡ words_of (drop (blanks bs) bs)
 skip_blanks [] = refl
 skip_blanks (b ∷ bs) = step (is_blank b) refl (skip_blanks bs)

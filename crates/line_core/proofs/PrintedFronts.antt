@@ -7,7 +7,7 @@ use Rattle.book_model.specs.lines.Lines.{is_printable, IsWord}
 use Rattle.book_model.specs.lines.Text.{three_words_text}
 use Rattle.line_core.proofs.DateText.{found_at, not_found}
 
--- how many bytes of a word stand in front
+-- with how many bytes of a word it begins
 abbrev pub printed : List ℕ → ℕ
 printed bs = position_or_len (λ b. not (is_printable b)) bs
 

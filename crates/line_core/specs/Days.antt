@@ -1,4 +1,4 @@
--- The days of which there is what a word is about.
+-- The days for which what a word is about exists.
 use Rattle.std.specs.Prelude.{ℤ}
 use Rattle.book_model.specs.declared.words.Meaning.{Meaning}
 use Rattle.book_model.specs.declared.words.Meaning.TheVariants.{Date, Value}

@@ -22,7 +22,8 @@ fn fixed_day(date: &Fields) -> i64
     i64::from(date.field(0))
 }
 
-// Of the two calendars whose days are known without any fact; their rows refuse no year.
+// Only Gregorian dates and day numbers are judged here, whose days are known without any fact; the rows of these two calendars
+// refuse no year.
 /// Whether the day of a date lies in the reach of a line, from its first to its last day, where it is known without any fact; `None`
 /// where the month of the date hasn't this day.
 fn has_day_in_reach(reach: (i64, i64), calendar: Calendar, date: &Fields) -> Option<bool>
@@ -37,8 +38,8 @@ fn has_day_in_reach(reach: (i64, i64), calendar: Calendar, date: &Fields) -> Opt
     }
 }
 
-// One rule for all calendars. Of a date whose day is found by facts the year is told first,
-// `refused 4`, and the day once it is computed, `refused 4 DAY`, with the facts that say so.
+// One rule for all calendars. A date whose day is found by facts is judged twice: by its year first (`refused 4`), and by its day
+// once that is computed (`refused 4 DAY`, with the facts that say so).
 /// A date of a calendar itself, where it is one that a line of a version answers, which may name the days from the first to the last
 /// of its reach, as far as that can be told without any fact: `Field` where the calendar can have no such date, `Range` where it is
 /// out of range.
@@ -106,7 +107,7 @@ pub(crate) fn day_of_gregorian(date: &Fields) -> i64
     gregorian_day(date).unwrap()
 }
 
-/// The day (R.D.) that the fields of a date name whose day is found by facts. It stops where the oracle stops.
+/// The day (R.D.) that the fields of a date name whose day is found by facts. It returns early where the oracle does.
 fn day_by<D: CalendarDate, O: Oracle>(oracle: &mut O, date: &Fields) -> Result<i64, Stop>
     requires askable { spec.IsAskable D.calendar date.now }
     ensures day { Asks O.Oracle (spec.day_named D.calendar date.now) oracle.old oracle.new result }
@@ -114,7 +115,7 @@ fn day_by<D: CalendarDate, O: Oracle>(oracle: &mut O, date: &Fields) -> Result<i
     D::day_by(oracle, date)
 }
 
-/// The fields of the date of a day (R.D.) whose date the calendar tells, found by facts. It stops where the oracle stops.
+/// The fields of the date of a day (R.D.) whose date the calendar tells, found by facts. It returns early where the oracle does.
 #[tactic(auto, using(oracle_core::proofs::Inquiring::asking))]
 fn fields_on<D: CalendarDate, O: Oracle>(oracle: &mut O, day: i64) -> Result<Fields, Stop>
     requires told { spec.IsDateDay D.calendar day }
@@ -123,8 +124,8 @@ fn fields_on<D: CalendarDate, O: Oracle>(oracle: &mut O, day: i64) -> Result<Fie
     Ok(D::of_day(oracle, day)?.fields())
 }
 
-/// The day (R.D.) that the fields of a date name by the Chinese rules over the sky of another place. It stops where the oracle
-/// stops.
+/// The day (R.D.) that the fields of a date name by the Chinese rules over the sky of another place. It returns early where the
+/// oracle does.
 fn day_at<O: Oracle>(oracle: &mut O, place: Place, date: &Fields) -> Result<i64, Stop>
     requires moved_to { IsTrue (is_moved_to place) }
     requires askable { spec.IsAskable Calendar.Chinese date.now }
@@ -134,7 +135,7 @@ fn day_at<O: Oracle>(oracle: &mut O, place: Place, date: &Fields) -> Result<i64,
     day_by::<ChineseDate, Moved<O>>(&mut Moved::new(oracle, place), date)
 }
 
-/// The fields of the date of a day (R.D.) by the Chinese rules over the sky of another place. It stops where the oracle stops.
+/// The fields of the date of a day (R.D.) by the Chinese rules over the sky of another place. It returns early where the oracle does.
 fn fields_at<O: Oracle>(oracle: &mut O, place: Place, day: i64) -> Result<Fields, Stop>
     requires moved_to { IsTrue (is_moved_to place) }
     requires told { spec.IsDateDay Calendar.Chinese day }
@@ -145,8 +146,8 @@ fn fields_at<O: Oracle>(oracle: &mut O, place: Place, day: i64) -> Result<Fields
 }
 
 // The calendars stand here once, for the day of a date and for the date of a day.
-/// What is given in the Gregorian calendar, in day numbers, by a call that is told the date's type of any other calendar, or by
-/// one that is told the place of a calendar of the Chinese rules.
+/// The one table of all calendars: an expression for the Gregorian calendar and one for day numbers, a call that takes the date's
+/// type for any other calendar, and one that takes the place for a calendar of the Chinese rules.
 macro_rules! by_calendar {
     ($calendar:expr, $gregorian:expr, $fixed:expr, $call:ident, $at:ident($oracle:expr, $given:expr)) => {
         match $calendar {
@@ -167,7 +168,7 @@ macro_rules! by_calendar {
     };
 }
 
-/// The day (R.D.) that a date names. It stops where the oracle stops.
+/// The day (R.D.) that a date names. It returns early where the oracle does.
 #[tactic(auto, using(oracle_core::proofs::Inquiring::asking))]
 pub(crate) fn named_day<O: Oracle>(
     oracle: &mut O,
@@ -186,7 +187,7 @@ pub(crate) fn named_day<O: Oracle>(
     )
 }
 
-/// The date of a day (R.D.) whose date the calendar tells. It stops where the oracle stops.
+/// The date of a day (R.D.) whose date the calendar tells. It returns early where the oracle does.
 #[tactic(auto, using(oracle_core::proofs::Inquiring::asking))]
 pub(crate) fn date_on<O: Oracle>(
     oracle: &mut O,

@@ -1,4 +1,4 @@
-//! What a line asks, or the first rule that it breaks, and what its request comes to by the answers of an oracle.
+//! What a line asks, or the first rule that it breaks, and the result of its request by the answers of an oracle.
 #![tactic(auto)]
 
 mod dates;

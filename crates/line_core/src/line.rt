@@ -25,7 +25,7 @@ pub struct ThreeWords<'a> {
 fn is_blank(byte: u8) -> bool
     ensures blank { result ≡ spec.is_blank byte }
 {
-    // Of nearly each byte the first comparison tells it.
+    // The first comparison settles it for nearly every byte.
     byte <= b' ' && (byte == b' ' || byte == b'\t')
 }
 

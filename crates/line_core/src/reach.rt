@@ -12,8 +12,8 @@ fn later(day: i64, other: i64) -> i64
     if day <= other { other } else { day }
 }
 
-/// The first day (R.D.) of which there is what a word is about: of a date the first that its calendar tells, of the value of a fact
-/// any.
+/// The first day (R.D.) for which what a word is about exists: the first day that a calendar tells, for a date; 0, which limits
+/// nothing, for the value of a fact.
 fn first_day_of(meaning: Meaning) -> i64
     ensures first { result ≡ spec.first_day_of meaning }
 {
@@ -24,7 +24,7 @@ fn first_day_of(meaning: Meaning) -> i64
 }
 
 // Of all calendars the French alone has a first day within the versions' range. A line whose FROM
-// is a fact is told by the day of its Gregorian date, though the day that the fact names might lie
+// is a fact is judged by the day of its Gregorian date, though the day that the fact names might lie
 // later.
 /// The first and the last day (R.D.) that a line of a version may name, by the words before and after its date.
 pub(crate) fn reach_of(version: Version, from: FromWord, to: ToWord) -> (i64, i64)

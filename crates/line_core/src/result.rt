@@ -1,4 +1,4 @@
-//! What a request comes to.
+//! The result of a request.
 ghost use Rattle.std.specs.Prelude.{◌≡◌, IsTrue};
 ghost use Rattle.book_model.specs.calendars.Dates as dates;
 ghost use Rattle.book_model.specs.lines.LineRules as spec;
@@ -17,7 +17,7 @@ use book_model::{
 };
 use oracle_core::{Oracle, Stop};
 
-/// The date of a day (R.D.) as a result. It stops where the oracle stops.
+/// The date of a day (R.D.) as a result. It returns early where the oracle does.
 #[tactic(auto, using(oracle_core::proofs::Inquiring::asking))]
 fn show_date<O: Oracle>(
     oracle: &mut O,
@@ -43,7 +43,7 @@ fn fact_on(to: ToWord, kind: Kind, place: Place, day: i64) -> Fact
     Fact::new(kind, place, day).unwrap()
 }
 
-/// The value of a fact on a day (R.D.) as a result. It stops where the oracle stops.
+/// The value of a fact on a day (R.D.) as a result. It returns early where the oracle does.
 #[tactic(auto, using(oracle_core::proofs::Inquiring::asking))]
 fn show_value<O: Oracle>(
     oracle: &mut O,
@@ -61,7 +61,8 @@ fn show_value<O: Oracle>(
     Ok(Resolved::Shown(to, one_field(value)))
 }
 
-/// What a day (R.D.) comes to. It stops where the oracle stops.
+/// The result for a day (R.D.): its date, or the value of its fact, as the word after the date asks. It returns early where the
+/// oracle does.
 fn resolve_on<O: Oracle>(oracle: &mut O, to: ToWord, day: i64) -> Result<Resolved, Stop>
     requires told { IsTold (shown_by to) day }
     ensures comes { Asks O.Oracle (spec.result_on to day) oracle.old oracle.new result }
@@ -72,8 +73,8 @@ fn resolve_on<O: Oracle>(oracle: &mut O, to: ToWord, day: i64) -> Result<Resolve
     }
 }
 
-/// What a day (R.D.) comes to whose own date is this one: `NoDate`, where that isn't the date of the request. It stops
-/// where the oracle stops.
+/// The result for a day (R.D.) whose own date is this one; `NoDate`, where that isn't the date of the request. It returns early
+/// where the oracle does.
 #[tactic(auto, using(oracle_core::proofs::Inquiring::asking), unfolding(book_model::specs::lines::LineRules::confirmed))]
 fn confirm<O: Oracle>(
     oracle: &mut O,
@@ -95,8 +96,8 @@ fn confirm<O: Oracle>(
 // The own date is taken after the range check and before TO: so a line that is refused with a date
 // lists no fact of TO. A Gregorian date is never confirmed, since its check says that the month has
 // the day.
-/// What a day (R.D.) within the range comes to that the date of a request names: it is confirmed where the calendar has
-/// dates that no day has. It stops where the oracle stops.
+/// The result for a day (R.D.) within the range that the date of a request names: the date is confirmed where the calendar has
+/// dates that no day has. It returns early where the oracle does.
 #[tactic(auto, using(oracle_core::proofs::Inquiring::asking), unfolding(book_model::specs::lines::LineRules::result_within))]
 fn resolve_within<O: Oracle>(oracle: &mut O, request: &Request, day: i64) -> Result<Resolved, Stop>
     requires reached { IsTrue (is_reached WRITTEN request.now.from request.now.to day) }
@@ -111,8 +112,8 @@ fn resolve_within<O: Oracle>(oracle: &mut O, request: &Request, day: i64) -> Res
     confirm(oracle, request, day, back)
 }
 
-/// What a day (R.D.) comes to that the date of a request names: `TooFar` where the line may not name it, and `NoDate` where
-/// the calendar of the request has another date for it. It stops where the oracle stops.
+/// The result for a day (R.D.) that the date of a request names: `TooFar` where the line may not name it, and `NoDate` where
+/// the calendar of the request has another date for it. It returns early where the oracle does.
 #[tactic(auto, using(oracle_core::proofs::Inquiring::asking), unfolding(book_model::specs::lines::LineRules::result_of_day))]
 fn resolve_day<O: Oracle>(
     oracle: &mut O,
@@ -141,7 +142,7 @@ fn named_fact(from: FromWord, kind: Kind, place: Place, date: &Fields) -> Fact
     Fact::new(kind, place, day_of_gregorian(date)).unwrap()
 }
 
-/// The day (R.D.) that the date of a request names: in a calendar, or by the value of a fact. It stops where the oracle stops.
+/// The day (R.D.) that the date of a request names: in a calendar, or by the value of a fact. It returns early where the oracle does.
 #[tactic(auto, using(oracle_core::proofs::Inquiring::asking))]
 fn day_of_request<O: Oracle>(
     oracle: &mut O,
@@ -162,11 +163,11 @@ fn day_of_request<O: Oracle>(
     }
 }
 
-/// What a request that breaks no rule of a version by itself comes to: the result of the line's rule by what the oracle
+/// The result of a request that breaks no rule of a version by itself: that of the line's rule by what the oracle
 /// knows, for which the facts that the rule asks are added to the oracle's list. `TooFar` comes exactly where the day
 /// that the date names isn't one of those that the line may name, which are the days of the version from the first on of
 /// which its calendars tell the dates, and `NoDate` exactly where it is and has another date in the calendar of the request. It
-/// stops where the oracle stops, at a fact that the rule asks.
+/// returns early where the oracle does, at a fact that the rule asks.
 ///
 /// ```
 /// let evaluator = Staged::new();

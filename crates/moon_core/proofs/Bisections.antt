@@ -1,4 +1,4 @@
--- Bisection: how many tests it makes, and that its answer lies where its ends do.
+-- Bisection: how many tests it makes, and that its answer lies where its bounds do.
 use Rattle.std.specs.Prelude.{◌≡◌, ℕ, zero, suc, ◌+◌, ◌*◌, Bool, true, false, if◌then◌else◌, ℤ, ◌+ℤ◌, ◌≤ℤ◌}
 use Rattle.std.proofs.Common.{arith}
 use Rattle.book_model.specs.Fraction.{whole}
@@ -26,7 +26,7 @@ passed_few : (n : ℕ) (f : Expression → Program Expression) → ((x : Express
 unfolding has_passed_at has_passed_of angle_past_of
 passed_few n f h y x = at_most_bind n 2 (h x) (λ v. at_most_bind 1 1 (cell_at_most (λ q. answer_at_most)) (λ r. compare_at_most (λ t. answer_at_most)))
 
--- each turn of a bisection makes those of its function and three more
+-- each iteration of a bisection makes those of its function and three more
 pub bisected_few : (n : ℕ) (f : Expression → Program Expression) → ((x : Expression) → AtMost n (f x)) → (more : ℕ) (y l u : Expression)
     → AtMost (more * (n + 3) + 1) (bisected_of more f y l u)
 unfolding bisected_of

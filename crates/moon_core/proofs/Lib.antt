@@ -1,4 +1,4 @@
--- of sun_core, given on
+-- of sun_core, re-exported
 pub use Rattle.sun_core.proofs.EarlyTests
 pub use Rattle.sun_core.proofs.Measured as SunMeasured
 pub use Rattle.sun_core.proofs.Nested

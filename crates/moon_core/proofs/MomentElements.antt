@@ -32,7 +32,7 @@ pub elements_lead : {E : Type 0} {shown : E → Interval} {w : World} (x : Expre
 unfolding centuries_of centuries_from in_centuries
 elements_lead x y h f = leads_bind h (λ z r. leads_answer (record { days = subtract z (constant (fraction_of NOON_2000)); is = refl; hold = f z r }))
 
--- ---- one test of a year, and the time by the correction of that year, wherever the run stands
+-- ---- one test of a year, and the time by ΔT of that year, wherever the run stands
 -- a run reports an answer alike from each count of tests on, which it leaves as it is
 record IsSteady {A T : Type 0} (R : A → T → Type 0) (r : Run A) (y : T) : Type 0 where
   steady : (b a k : ℕ) → Reports R r b a (Ok y) → Reports R r k k (Ok y)

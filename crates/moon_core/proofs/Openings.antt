@@ -1,5 +1,5 @@
--- Which failures of the moon's formulas are at the year: a wrap that is open isn't, and one that comes after three tests isn't
--- among the first.
+-- Which failures of the moon's formulas are at the year: a wrap that is undecided isn't, and one that comes after three tests
+-- isn't among the first.
 use Rattle.std.specs.Prelude.{ℕ, ◌≤◌, Result, Ok, Err, IfErr}
 use Rattle.std.proofs.Common.{arith}
 use Rattle.book_model.specs.Interval.{Interval}

@@ -93,7 +93,7 @@ about_between w f x t v h k e =
     two_between : (w : World) → IsBetween (pos 2) (pos 2) (value w (integer (pos 2)))
     two_between w = (record { cross = omega (arith, ints) }, record { cross = omega (arith, ints) })
 
--- it lies within the years of which there is a correction, or little before or after
+-- it lies within the years of which ΔT is known, or little before or after
 pub phase_before_between : (w : World) (f x v : Expression) → outcome (run w (phase_before_of f x)) ≡ valued v → IsBetween sought_from sought_to (value w v)
 unfolding phase_before_of phase_past_of
 phase_before_between w f x v e =

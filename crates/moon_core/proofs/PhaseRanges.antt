@@ -161,7 +161,7 @@ nearest_between w lo hi n m h e =
     let r : (lo ≤ℤ d.cell_there) × (d.cell_there ≤ℤ (hi +ℤ pos 1)) = (omega (arith, ints, f.0), omega (arith, ints, f.1)) in
     rw d.leads_to at r
 
--- the number of a new moon about a moment of the years of which there is a correction
+-- the number of a new moon about a moment of the years of which ΔT is known
 abbrev pub IsDatedNumber : ℤ → Type 0
 IsDatedNumber n = (negsuc 6199 ≤ℤ n) × (n ≤ℤ LAST_TABLE_MOON)
 
@@ -272,7 +272,7 @@ number_between w x n lo l f h e =
     let g = nearest_between w (l -ℤ pos 1) (LAST_TABLE_MONTH -ℤ pos 0) n _ d p.then in
     (omega (arith, ints, g.0), omega (arith, ints, g.1))
 
--- it is one of the years of which there is a correction
+-- it is one of the years of which ΔT is known
 pub number_near : (w : World) (x : Expression) (n : ℤ) → outcome (run w (number_of_moon x)) ≡ valued n → IsDatedNumber n
 number_near w x n e =
     let f = number_between w x n TABLE_START (negsuc 6194) months_of_days (λ h. h) e in

@@ -1,4 +1,4 @@
--- What is kept of the moon's longitude over a stretch of days, and the number of a new moon by it.
+-- What a linear model has of the moon's longitude over an interval of days, and the number of a new moon by it.
 use Rattle.std.specs.Prelude.{length, slice_range, ℤ}
 use Rattle.book_model.specs.Interval.{Interval}
 use Rattle.book_model.specs.declared.moon_tables.TheConstants.{JUPITER_WAVE, MOON_TERMS, VENUS_WAVE}
@@ -29,7 +29,7 @@ unfoldable pub other_terms_of : Expression → Expression
 other_terms_of x = terms_of (longitude_term_of (lunar_angles_of (in_centuries x))) no_term
     (slice_range MOON_TERMS GREATEST_TERMS (length MOON_TERMS))
 
--- a course's parts hold those of the longitude at each number of days of the stretch
+-- a linear model's parts hold those of the longitude at each number of days of the interval
 pub record IsMoonCourse {E : Type 0} (shown : E → Interval) (days : E) (b : HigherTerms E) (a : MeanAngles E)
     (t v j f n : E) : Type 0 where
   pub higher : (w : World) (x : Expression) → Within shown w x days → HoldHigherTerms shown w (in_centuries x) b

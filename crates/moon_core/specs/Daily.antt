@@ -1,5 +1,5 @@
--- The moon's longitude and latitude as they are computed, their linear parts and waves by the days from noon of 1
--- January 2000.
+-- The moon's longitude and latitude as they are computed, their linear parts and periodic terms by the days from noon
+-- of 1 January 2000.
 use Rattle.book_model.specs.declared.moon_tables.TheConstants.{ECCENTRICITY_FACTOR, ELONGATION, FLATTENING, JUPITER_WAVE, LATITUDE_ARGUMENT, LATITUDE_WAVE, MILLIONTH, MOON_ANOMALY, MOON_LONGITUDE, SUN_ANOMALY, VENUS_WAVE}
 use Rattle.book_model.specs.declared.time_tables.TheConstants.{NOON_2000}
 use Rattle.book_model.specs.declared.polynomial.Cubic.{Cubic}

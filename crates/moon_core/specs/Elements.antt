@@ -49,8 +49,8 @@ pub record AreElementsOf {E : Type 0} (shown : E → Interval) (w : World) (x : 
     Type 0 where
   pub again : (k : ℕ) → Leads w (AreElements shown w) (centuries_of x) k (next_turn k) (Ok b)
 
--- elements are as narrow as those of a moment that is at most so wide, and 2^-20 days, one of the years of which there
--- are corrections
+-- elements are as narrow as those of a moment that is at most so wide, and 2^-20 days, one of the years of which ΔT is
+-- known
 pub record AreMeasured {E : Type 0} (shown : E → Interval) (bits v : ℕ) (b : MoonElements E) : Type 0 where
   pub short : v ≤ 2 ^ 44
   pub keep : KeepElements shown (limits_of bits) (record { width = v + 2 ^ 17; bounds = λ k. table_days 1 (2 ^ 40) 0 })

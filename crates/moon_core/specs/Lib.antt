@@ -1,4 +1,4 @@
--- of sun_core, given on
+-- of sun_core, re-exported
 pub use Rattle.sun_core.specs.Daily as SunDaily
 pub mod Angles
 pub mod Courses

@@ -3,7 +3,7 @@ use Rattle.std.specs.Prelude.{ℕ, ◌*◌, ◌^◌, pos, neg_ℤ, if◌then◌e
 use Rattle.book_model.specs.numbers.Bounds.{Bound, bounded}
 use Rattle.book_model.specs.programs.Widths.{table_days}
 
--- the days of which there are corrections, and the bound of a sum of terms beside them
+-- the days of which ΔT is known, and the bound of a sum of terms beside them
 abbrev pub days_and : Bound → ℕ → Bound
 days_and t k = if k == 0 then table_days 1 (2 ^ 40) 0 else t
 

@@ -1,6 +1,6 @@
-//! The course of the moon over a stretch of days: what it is ahead of its mean longitude by all but the greatest of its terms, as wide
-//! as that may be at one of them. The longitude at a moment of the stretch takes the greatest terms of the moment, and the others of
-//! the course.
+//! A linear model of the moon over an interval of days: the sum of all but the greatest of its terms, taken once, as wide as it may
+//! be on one of these days. The longitude at a moment of the interval takes its mean longitude and the greatest terms at the moment,
+//! and the sum of the others from the model.
 ghost use Rattle.std.specs.Prelude.{◌≡◌, ◌≤◌, Ok, IfOk, IsTrue};
 ghost use Rattle.book_model.specs.Interval.{◌⊆◌};
 ghost use Rattle.book_model.specs.numbers.Depth.{DEPTH};
@@ -45,7 +45,7 @@ fn greatest_by<E: Enclosure>(angles: MeanAngles<E>) -> E
     greatest_terms(angles)
 }
 
-/// The sum of the others. Over a stretch of more than a third of a day it may be any sum of these.
+/// The sum of the others. Over an interval of more than a third of a day it may be any sum of these.
 fn others_by<E: Enclosure>(angles: MeanAngles<E>) -> E
     ensures holds { (w : World) (x : Expression) → DEPTH ≤ w.depth
         → HoldAngles E.shown w (lunar_angles_of (in_centuries x)) angles
@@ -54,7 +54,8 @@ fn others_by<E: Enclosure>(angles: MeanAngles<E>) -> E
     other_terms(angles)
 }
 
-/// The course of the moon over a stretch of days, counted from noon of 1 January 2000 in dynamical time. Contracts see the days.
+/// The linear model of the moon over an interval of days, counted from noon of 1 January 2000 in dynamical time. Contracts see the
+/// days.
 #[derive(Drop)]
 pub(crate) struct MoonCourse<E: Enclosure> {
     days: E,
@@ -79,7 +80,7 @@ impl<E: Enclosure> Model for MoonCourse<E> {
 }
 
 impl<E: Enclosure> MoonCourse<E> {
-    /// The course over days, by the higher terms, the angles and the nutation that hold there.
+    /// The linear model over days, by the higher terms, the angles and the nutation that hold there.
     fn by(days: E, higher: HigherTerms<E>, angles: MeanAngles<E>, nutation: E) -> Self
         requires higher { (w : World) (x : Expression) → Within E.shown w x days
             → HoldHigherTerms E.shown w (in_centuries x) higher }
@@ -103,7 +104,7 @@ impl<E: Enclosure> MoonCourse<E> {
         }
     }
 
-    /// The course over days, by the nutation there.
+    /// The linear model over days, by the nutation there.
     pub(crate) fn of(days: E, nutation: E) -> Self
         requires nutation { Holds1 E.shown (λ x. nutation_of (in_centuries x)) days nutation }
         ensures days { result ≡ days }
@@ -113,20 +114,20 @@ impl<E: Enclosure> MoonCourse<E> {
         MoonCourse::<E>::by(days, higher, angles_by(days, c, higher), nutation)
     }
 
-    /// The course over the usual days, over which its terms come to their whole size.
+    /// The linear model over the usual days, over which its terms reach their whole size.
     pub(crate) fn usual() -> Self {
         let days = E::from_int(FIRST_USUAL_DAY).hull(E::from_int(LAST_USUAL_DAY));
         MoonCourse::<E>::of(days, nutation(days.mul_frac(DAY_IN_CENTURIES)))
     }
 
-    /// Whether days lie within those of the course.
+    /// Whether days lie within those of the linear model.
     fn covers(&self, days: E) -> bool
         ensures there { IsTrue result → E.shown days ⊆ E.shown self.now }
     {
         lies_within(days, self.days)
     }
 
-    /// The angles by days of the course: those by which the greatest terms turn at these days, the others of the course.
+    /// The angles by days of the linear model: those by which the greatest terms turn at these days, the others from the linear model.
     fn angles_on(&self, days: E) -> MeanAngles<E>
         requires there { E.shown days ⊆ E.shown self.now }
         ensures holds { (w : World) (x : Expression) → Within E.shown w x days
@@ -141,7 +142,7 @@ impl<E: Enclosure> MoonCourse<E> {
         }
     }
 
-    /// The sum of the longitude's terms by days of the course, in millionths of a degree.
+    /// The sum of the longitude's terms by days of the linear model, in millionths of a degree.
     fn terms_on(&self, days: E) -> E
         requires there { E.shown days ⊆ E.shown self.now }
         ensures holds { Holds1 E.shown (λ x. longitude_terms_of (in_centuries x)) days result }
@@ -149,7 +150,7 @@ impl<E: Enclosure> MoonCourse<E> {
         greatest_by(self.angles_on(days)).add(self.terms)
     }
 
-    /// What the moon is ahead of its mean longitude by days of the course, in millionths of a degree.
+    /// What the moon is ahead of its mean longitude by days of the linear model, in millionths of a degree.
     fn inequalities_on(&self, days: E) -> E
         requires there { E.shown days ⊆ E.shown self.now }
         ensures holds { Holds1 E.shown (λ x. inequalities_of (in_centuries x)) days result }
@@ -160,7 +161,7 @@ impl<E: Enclosure> MoonCourse<E> {
             .add(self.flattening)
     }
 
-    /// The longitude of the moon by days of the course, not reduced.
+    /// The longitude of the moon by days of the linear model, not reduced.
     fn longitude_on(&self, days: E) -> E
         requires there { E.shown days ⊆ E.shown self.now }
         ensures holds { Holds1 E.shown (λ x. moon_longitude_of (in_centuries x)) days result }
@@ -171,9 +172,9 @@ impl<E: Enclosure> MoonCourse<E> {
     }
 }
 
-/// The apparent longitude of the moon at a moment of universal time by a course, in degrees from 0 up to 360, as wide as it may be
-/// over the stretch of the course. Where it answers it has made the tests of `moon`. A failure says nothing of `moon`: it is void at
-/// `moon-wrap` where the moment isn't one of the course.
+/// The apparent longitude of the moon at a moment of universal time by a linear model, in degrees from 0 up to 360, as wide as it
+/// may be over the interval of the linear model. Where it answers it has made the tests of `moon`. A failure says nothing of `moon`:
+/// it is void at `moon-wrap` where the moment isn't one of the linear model.
 pub(crate) fn moon_by<E: Enclosure>(
     course: &MoonCourse<E>,
     t: E,

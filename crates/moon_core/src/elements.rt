@@ -44,7 +44,7 @@ pub(crate) fn elements_at<E: Enclosure>(days: E) -> MoonElements<E>
     }
 }
 
-/// The elements at a moment of universal time: one test, the year's. It is void at `year` in a year without a correction.
+/// The elements at a moment of universal time: one test, the year's. It is void at `year` in a year without ΔT.
 #[tactic(auto, using(book_model::proofs::Leads::leading), unfolding(book_model::specs::sky::Time::centuries_of))]
 pub fn moon_elements<E: Enclosure>(t: E, trail: &mut Trail) -> Result<MoonElements<E>, Fail>
     ensures leads { (w : World) (x : Expression) → Within E.shown w x t

@@ -1,5 +1,5 @@
-//! The higher terms of a quartic of the time, which are those in its square, its cube and its fourth power. Over a stretch of some days
-//! they hardly move, so a course takes their sum once, and a moment of the stretch only the constant and the linear term.
+//! The higher terms of a quartic of the time, which are those in its square, its cube and its fourth power. Over an interval of some
+//! days they hardly move, so a linear model takes their sum once, and a moment of the interval only the constant and the linear term.
 ghost use Rattle.book_model.specs.numbers.Bounds.{Reach, limits_of};
 ghost use Rattle.book_model.specs.numbers.Expressions.{Expression, World, power};
 ghost use Rattle.book_model.specs.numbers.Polynomials.{quartic_of};

@@ -26,7 +26,7 @@ use encl_core::{Enclosure, Trail};
 use periodic_terms::{latitude_terms, sin_deg};
 use sun_core::{sine_wave, wave_angle};
 
-/// What Venus adds, by the angle of its wave and the argument of latitude, in millionths of a degree.
+/// What Venus adds, by the angle of its periodic term and the argument of latitude, in millionths of a degree.
 #[tactic(auto, unfolding(book_model::specs::sky::Latitude::venus_by))]
 fn venus<E: Enclosure>(venus: E, argument: E) -> E
     ensures encloses { Encloses2 E.shown E.BITS spec.venus_by venus argument result }
@@ -80,7 +80,7 @@ fn latitude_at<E: Enclosure>(elements: MoonElements<E>) -> E
 
 /// The latitude of the moon, from the ecliptic, at a moment of universal time, in degrees (Reingold and Dershowitz, Calendrical
 /// Calculations, chapter 14; Meeus, Astronomical Algorithms, chapter 47). One test, the year's. It is void at `year` in a year
-/// without a correction.
+/// without ΔT.
 #[tactic(auto, using(book_model::proofs::Leads::leading), unfolding(book_model::specs::sky::Latitude::latitude_of))]
 pub fn latitude<E: Enclosure>(t: E, trail: &mut Trail) -> Result<E, Fail>
     ensures leads { Follows1 E.shown spec.latitude_of t trail.old.count trail.new.count result }

@@ -7,9 +7,9 @@
 //! - `phase`: the longitude less the sun's, which is 0 at a new moon and 180 at a full moon;
 //! - `moon_before`: the last new moon before a moment; `moon_from`: the first at or after it;
 //! - `phase_before`: when the moon was last at a phase; `phase_day`: the day of that;
-//! - `PhaseCourse`: what is known of the phase over a stretch of time, by which `moon_before_by`, `moon_from_by` and `phase_before_by`
-//!   are the calls above;
-//! - of `sun_core` and `new_moons` what the facts ask of the sun, and the trail with which they begin, given on.
+//! - `PhaseCourse`: a linear model of the phase over an interval of time, by which `moon_before_by`, `moon_from_by` and
+//!   `phase_before_by` are the calls above;
+//! - of `sun_core` and `new_moons` what the facts ask of the sun, and the trail with which they begin, re-exported.
 #![tactic(auto)]
 
 mod angles;

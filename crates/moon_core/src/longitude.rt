@@ -88,7 +88,7 @@ pub fn longitude_at<E: Enclosure>(elements: MoonElements<E>, trail: &mut Trail) 
 
 /// The apparent longitude of the moon at a moment of universal time, in degrees from 0 up to 360 (Reingold and
 /// Dershowitz, Calendrical Calculations, chapter 14; Meeus, Astronomical Algorithms, chapter 47). Two tests, the year's and
-/// the one at `moon-wrap`. It is void at `year` in a year without a correction.
+/// the one at `moon-wrap`. It is void at `year` in a year without ΔT.
 #[tactic(auto, using(book_model::proofs::Leads::leading), unfolding(book_model::specs::sky::Moon::moon_of))]
 pub fn moon<E: Enclosure>(t: E, trail: &mut Trail) -> Result<E, Fail>
     ensures leads { Follows1 E.shown spec.moon_of t trail.old.count trail.new.count result }

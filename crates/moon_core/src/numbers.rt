@@ -1,7 +1,7 @@
 //! The number of the new moon before a moment, by the phase of the moon there.
 //!
-//! It is rounded from months that lie within a 50th of a whole number, so a phase by a course over all usual days tells it mostly.
-//! Where that leaves a test open, as near a new moon, its tests are taken back, and the phase at the moment tells it.
+//! It is rounded from months that lie within a 50th of a whole number, so a phase by a linear model over all usual days tells it
+//! mostly. Where that leaves a test undecided, as near a new moon, its tests are taken back, and the phase at the moment tells it.
 ghost use Rattle.book_model.specs.programs.Calls.{Decides1, Decides2};
 ghost use Rattle.book_model.specs.programs.Widths.{IsAbout, IsClose, IsMoment, IsUpTo, Closes1, IsSince};
 ghost use Rattle.std.specs.Prelude.{◌≡◌, ℕ, ◌≤◌, ◌+◌, ◌*◌, ◌/◌, ◌^◌, pos, negsuc, ◌≤ℤ◌, Ok, IfOk, IfErr};
@@ -41,7 +41,7 @@ fn number_at<E: Enclosure>(months: E, t: E, trail: &mut Trail) -> Result<i64, Fa
     number_of_phase(months, degrees, trail)
 }
 
-/// The same by a course. Where it answers it has made the tests of `number_at`; a failure says nothing.
+/// The same by a linear model. Where it answers it has made the tests of `number_at`; a failure says nothing.
 fn number_near<E: Enclosure>(
     course: &PhaseCourse<E>,
     months: E,
@@ -74,7 +74,8 @@ fn number_tried<E: Enclosure>(
     )
 }
 
-/// The number by the months since the new moon of number 0: by a course where that decides it, and else by the phase at the moment.
+/// The number by the months since the new moon of number 0: by a linear model where that decides it, and else by the phase at the
+/// moment.
 fn number_after<E: Enclosure>(
     course: &PhaseCourse<E>,
     months: E,

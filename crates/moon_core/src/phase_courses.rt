@@ -1,4 +1,4 @@
-//! The phase of the moon over a stretch of time, by the courses of the moon and the sun.
+//! The phase of the moon over an interval of time, by the linear models of the moon and the sun.
 ghost use Rattle.std.specs.Prelude.{◌≡◌, Ok, IfOk};
 ghost use Rattle.book_model.specs.numbers.Ranges.{IsInTable};
 ghost use Rattle.book_model.specs.programs.Calls.{Follows1};
@@ -10,7 +10,7 @@ use book_model::Fail;
 use encl_core::{Enclosure, Trail};
 use sun_core::{SunCourse, sun_by};
 
-/// The courses of the moon and of the sun over a stretch of days.
+/// The linear models of the moon and of the sun over an interval of days.
 #[derive(Drop)]
 pub struct PhaseCourse<E: Enclosure> {
     moon: MoonCourse<E>,
@@ -18,7 +18,7 @@ pub struct PhaseCourse<E: Enclosure> {
 }
 
 impl<E: Enclosure> PhaseCourse<E> {
-    /// The courses over days, counted from noon of 1 January 2000 in dynamical time.
+    /// The linear models over days, counted from noon of 1 January 2000 in dynamical time.
     pub(crate) fn of(days: E) -> Self {
         let sun = SunCourse::<E>::of(days);
         PhaseCourse {
@@ -27,7 +27,7 @@ impl<E: Enclosure> PhaseCourse<E> {
         }
     }
 
-    /// The courses over the usual days. A phase by them is many degrees wide, and still tells the number of the
+    /// The linear models over the usual days. A phase by them is many degrees wide, and still tells the number of the
     /// new moon before a moment, unless the moment is near one: that is rounded from what lies within a 50th of a whole number.
     pub fn usual() -> Self {
         PhaseCourse {
@@ -36,13 +36,13 @@ impl<E: Enclosure> PhaseCourse<E> {
         }
     }
 
-    /// The course of the sun.
+    /// The linear model of the sun.
     pub fn sun(&self) -> &SunCourse<E> {
         &self.sun
     }
 }
 
-/// The longitude of the moon less that of the sun, from 0 up to 360 degrees, by their courses.
+/// The longitude of the moon less that of the sun, from 0 up to 360 degrees, by their linear models.
 fn elongation_by<E: Enclosure>(course: &PhaseCourse<E>, t: E, trail: &mut Trail) -> Result<E, Fail>
     ensures leads { IfOk result (λ e. Follows1 E.shown elongation_of t trail.old.count
         trail.new.count (Ok e)) }
@@ -53,8 +53,9 @@ fn elongation_by<E: Enclosure>(course: &PhaseCourse<E>, t: E, trail: &mut Trail)
     within_turn(there.sub(longitude), trail)
 }
 
-/// The phase of the moon at a moment of universal time by a course, in degrees, as wide as it may be over its stretch. Where it
-/// answers it has made the tests of `phase`. A failure says nothing of `phase`: it is void where the moment isn't one of the course.
+/// The phase of the moon at a moment of universal time by a linear model, in degrees, as wide as it may be over its interval. Where
+/// it answers it has made the tests of `phase`. A failure says nothing of `phase`: it is void where the moment isn't one of the
+/// linear model.
 pub(crate) fn phase_by<E: Enclosure>(
     course: &PhaseCourse<E>,
     t: E,

@@ -31,8 +31,8 @@ pub(crate) fn within_turn<E: Enclosure>(angle: E, trail: &mut Trail) -> Result<E
     wrap_step(angle, 360, Site::PhaseWrap, trail)
 }
 
-/// The longitude of the moon less that of the sun, from 0 up to 360 degrees, at a moment of the years of which there is a
-/// correction: five tests at most (`elongation_few`).
+/// The longitude of the moon less that of the sun, from 0 up to 360 degrees, at a moment of the years of which ΔT is
+/// known: five tests at most (`elongation_few`).
 #[tactic(auto, using(book_model::proofs::Leads::leading), unfolding(book_model::specs::sky::Phases::elongation_of))]
 fn elongation<E: Enclosure>(t: E, trail: &mut Trail) -> Result<E, Fail>
     ensures leads { Follows1 E.shown spec.elongation_of t trail.old.count trail.new.count result }
@@ -70,7 +70,7 @@ pub(crate) fn nearest_moon<E: Enclosure>(months: E, trail: &mut Trail) -> Result
     floor_step(months.add(E::from_frac(HALF)), Site::MoonNumber, trail)
 }
 
-/// The number of the new moon about a moment of the years of which there is a correction, by mean months from the first: two
+/// The number of the new moon about a moment of the years of which ΔT is known, by mean months from the first: two
 /// tests at most (`rough_few`).
 #[tactic(auto, using(book_model::proofs::Leads::leading), unfolding(book_model::specs::sky::Phases::rough_number_of))]
 fn rough_number<E: Enclosure>(t: E, trail: &mut Trail) -> Result<i64, Fail>
@@ -152,7 +152,7 @@ fn test_which_phase<E: Enclosure>(
 }
 
 // Apart from the longitudes, so that the first three tests, at the year of the moment itself twice,
-// are told from the later ones: at a whole day these are never open (`IsNoEarlyYear`).
+// are told from the later ones: at a whole day these are never undecided (`IsNoEarlyYear`).
 /// The phase by longitudes, or in its place the one by the time since the new moon about the moment.
 #[tactic(auto, using(book_model::proofs::Leads::leading), unfolding(book_model::specs::sky::Phases::corrected_of))]
 pub(crate) fn corrected<E: Enclosure>(by_longitudes: E, t: E, trail: &mut Trail) -> Result<E, Fail>
@@ -174,8 +174,8 @@ pub(crate) fn corrected<E: Enclosure>(by_longitudes: E, t: E, trail: &mut Trail)
 /// The phase of the moon at a moment of universal time, in degrees: its longitude less the sun's, from 0 up to 360, or,
 /// where the moment is so near a new moon that this is a turn off, the time since the new moon in its place (Reingold
 /// and Dershowitz, Calendrical Calculations, chapter 14). Ten tests: five of the longitudes, two of the number of the new
-/// moon about the moment, two of the time since that, and one that picks. It is void at `year` in a year without a
-/// correction.
+/// moon about the moment, two of the time since that, and one that picks. It is void at `year` in a year without
+/// ΔT.
 #[tactic(auto, using(book_model::proofs::Leads::leading), unfolding(book_model::specs::sky::Phases::phase_of))]
 pub fn phase<E: Enclosure>(t: E, trail: &mut Trail) -> Result<E, Fail>
     ensures leads { Follows1 E.shown spec.phase_of t trail.old.count trail.new.count result }

@@ -105,7 +105,7 @@ fn phase_about<E: Enclosure>(
     )
 }
 
-/// `phase_before`, where the courses of the moon and the sun are known, over the usual days or over those about the moment.
+/// `phase_before`, where the linear models of the moon and the sun are known, over the usual days or over those about the moment.
 #[tactic(auto, using(book_model::proofs::Leads::leading), unfolding(book_model::specs::sky::Phases::phase_before_of))]
 pub fn phase_before_by<E: Enclosure>(
     course: &PhaseCourse<E>,
@@ -125,7 +125,7 @@ pub fn phase_before_by<E: Enclosure>(
 /// When the moon was last at a phase, in degrees, at or before a moment of universal time: by bisection about the moment to which
 /// the mean phase leads back (Reingold and Dershowitz, Calendrical Calculations, chapter 14). 844 tests at most
 /// (`phase_before_few`): eleven of how far the moon is past the phase, and those of the bisection. It is void at `year` in a year
-/// without a correction.
+/// without ΔT.
 pub fn phase_before<E: Enclosure>(p: E, t: E, trail: &mut Trail) -> Result<E, Fail>
     ensures leads { Follows2 E.shown spec.phase_before_of p t trail.old.count trail.new.count result }
     ensures measured { Measured2 E.BITS E.shown (2 ^ 32) (λ v. IsMoment 0) IsMoment
@@ -136,10 +136,10 @@ pub fn phase_before<E: Enclosure>(p: E, t: E, trail: &mut Trail) -> Result<E, Fa
     phase_before_by(&course, p, t, trail)
 }
 
-// One call, which the four phases and the first sight of the crescent share.
+// One call, which the four phases and the first visibility of the crescent share.
 /// The day (R.D.) in universal time on which the moon was last at a phase, in degrees, before a day begins or as it begins, by the
-/// courses of the moon and the sun: 845 tests at most (`phase_day_few_exactly`). It is void where `phase_before` is. Its first and
-/// third tests, of the year of the day itself, are never open.
+/// linear models of the moon and the sun: 845 tests at most (`phase_day_few_exactly`). It is void where `phase_before` is. Its
+/// first and third tests, of the year of the day itself, are never undecided.
 #[tactic(auto, using(book_model::proofs::Leads::leading), unfolding(book_model::specs::sky::Phases::phase_day_of))]
 pub fn phase_day<E: Enclosure>(
     course: &PhaseCourse<E>,

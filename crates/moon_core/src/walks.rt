@@ -68,7 +68,7 @@ fn moon_preceding<E: Enclosure>(n: i64, trail: &mut Trail) -> Result<E, Fail>
     new_moon::<E>(n - 1, trail)
 }
 
-/// `moon_before`, where the courses of the moon and the sun are known over the usual days.
+/// `moon_before`, where the linear models of the moon and the sun are known over the usual days.
 #[tactic(auto, using(book_model::proofs::Leads::leading), unfolding(book_model::specs::sky::Phases::moon_before_of))]
 pub fn moon_before_by<E: Enclosure>(
     course: &PhaseCourse<E>,
@@ -89,7 +89,7 @@ pub fn moon_before_by<E: Enclosure>(
 /// The moment of the last new moon before a moment of universal time (Reingold and Dershowitz, Calendrical Calculations,
 /// chapter 14): from the number before that of the moment the walk goes to the first new moon that isn't before it, and
 /// takes the one before that anew. At most 25 tests. It is void at `moon-walk` where the walk would take more than
-/// five steps, and at `year` in a year without a correction.
+/// five steps, and at `year` in a year without ΔT.
 pub fn moon_before<E: Enclosure>(t: E, trail: &mut Trail) -> Result<E, Fail>
     ensures leads { Follows1 E.shown spec.moon_before_of t trail.old.count trail.new.count result }
     ensures measured { Measured1 E.BITS E.shown (3 * 2 ^ 37) IsMoment
@@ -101,7 +101,7 @@ pub fn moon_before<E: Enclosure>(t: E, trail: &mut Trail) -> Result<E, Fail>
     moon_before_by(&course, t, trail)
 }
 
-/// `moon_from`, where the courses of the moon and the sun are known over the usual days.
+/// `moon_from`, where the linear models of the moon and the sun are known over the usual days.
 #[tactic(auto, using(book_model::proofs::Leads::leading), unfolding(book_model::specs::sky::Phases::moon_from_of))]
 pub fn moon_from_by<E: Enclosure>(
     course: &PhaseCourse<E>,
@@ -122,7 +122,7 @@ pub fn moon_from_by<E: Enclosure>(
 /// The moment of the first new moon at or after a moment of universal time (Reingold and Dershowitz, Calendrical
 /// Calculations, chapter 14): from the number of the moment the walk goes to the first new moon that isn't before it, and
 /// takes that anew. At most 25 tests. It is void at `moon-walk` where the walk would take more than five steps, and
-/// at `year` in a year without a correction.
+/// at `year` in a year without ΔT.
 pub fn moon_from<E: Enclosure>(t: E, trail: &mut Trail) -> Result<E, Fail>
     ensures leads { Follows1 E.shown spec.moon_from_of t trail.old.count trail.new.count result }
     ensures measured { Measured1 E.BITS E.shown (3 * 2 ^ 37) IsMoment

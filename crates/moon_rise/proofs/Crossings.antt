@@ -1,6 +1,6 @@
--- A minute that is found lies in a stretch in which it becomes so. The run at depth 40 is taken apart: each halving keeps a stretch at
--- whose beginning it isn't so and at whose end it is, twice as short as the one before, and what is so at depth 40 is so at every
--- greater one.
+-- A minute that is found lies in an interval in which it becomes so. The run at depth 40 is taken apart: each halving keeps an
+-- interval at whose beginning it isn't so and at whose end it is, twice as short as the one before, and what is so at depth 40 is so
+-- at every greater one.
 use Rattle.std.proofs.Common.{◌≡◌, ℕ, zero, suc, ◌+◌, ◌-◌, ◌*◌, ◌/◌, ◌^◌, ◌<◌, ◌≤◌, refl, subst, ap, arith, Bool, true, false, not, if◌then◌else◌, ℤ, pos, negsuc, ◌≤ℤ◌, ◌*ℤ◌}
 use Rattle.std.specs.Prelude.{◌&&◌}
 use Rattle.std.proofs.lemmas.Int.{ints}
@@ -15,11 +15,11 @@ use Rattle.book_model.specs.programs.Crossings.{middle_of, halved_of, minutes_at
 use Rattle.moon_rise.specs.Crossings.{ComesToAlways, HasCrossing}
 use Rattle.book_model.specs.sky.Moonrise.{moonrise_of, moonset_of, up_at_of}
 
--- what a program comes to at depth 40
+-- the answer of a program at depth 40
 abbrev Comes : {A : Type 0} → Program A → A → Type 0
 Comes p a = outcome (run (at_depth 40) p) ≡ valued a
 
--- a program that comes to an answer at depth 40 does so at every depth from there on
+-- a program that gives an answer at depth 40 does so at every depth from there on
 always : {A : Type 0} (p : Program A) (a : A) → Comes p a → ComesToAlways p a
 always p a e = record { at_each_depth = λ n deep. runs_nest.value_stays (at_depth n) (at_depth 40) (record { deeper = deep; inner = λ k. within_refl _ }) p a e }
 
@@ -32,7 +32,7 @@ record IsStretch (holds : ℕ → Program Bool) (low high : ℕ) : Type 0 where
   before : Comes (holds low) false
   after : Comes (holds high) true
 
--- a sixteenth of a quarter of an hour of which that holds, within a stretch
+-- a sixteenth of a quarter of an hour of which that holds, within an interval
 record IsHalved (holds : ℕ → Program Bool) (first last low : ℕ) : Type 0 where
   stretch : IsStretch holds low (suc low)
   above : first ≤ low
@@ -123,7 +123,7 @@ pub rising_found : (place : Place) (location : Location) (day v : ℤ) → pos 0
 unfolding moonrise_of
 rising_found place location day v m h = crossing_found (up_at_of place location day) v m h
 
--- what comes to an answer where its opposite comes to another
+-- what gives an answer where its opposite gives another
 turned : (holds : ℕ → Program Bool) (i : ℕ) (so : Bool) → ComesToAlways (opposite_of holds i) so → ComesToAlways (holds i) (not so)
 unfolding opposite_of
 turned holds i so h =

@@ -211,7 +211,7 @@ near f l u =
 module _ {E : Type 0} (shown : E → Interval) (bits : ℕ) (e : E) (d : ℤ) (low : 36 ≤ bits) (high : bits ≤ 56) (day : IsValueDay d) (f : Fraction)
     (small : suc f.below < 2 ^ 32) (from : neg_ℤ (pos (suc f.below)) ≤ℤ f.num) (to : f.num ≤ℤ pos (suc f.below))
     (y : Narrow shown (limits_of bits) (record { width = 0; bounds = λ k. unbounded }) (add (integer d) (constant f)) e) where
-  -- what its ends are
+  -- what its bounds are
   kept : IsNarrow 0 (bounded (d *ℤ pos (2 ^ 32) +ℤ floor_at_32 f) (d *ℤ pos (2 ^ 32) +ℤ ceil_at_32 f) 0 (0 + 2 ^ (64 - bits))) (shown e)
   unfolding Keeps
   kept =

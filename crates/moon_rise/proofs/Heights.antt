@@ -80,7 +80,7 @@ little_higher : plus (at_32 (pos (2 ^ 31))) (breadth 0 0 (2 ^ 34)) ≤F at_32 (p
 unfolding plus
 little_higher = record { cross = omega (arith, ints) }
 
--- of one whose lower end is at most 1/2
+-- of one whose lower bound is at most 1/2
 not_greater : (a b : Fraction) → IsSkySine (between a b) → a ≤F at_32 (pos (2 ^ 31))
     → ((b ≤F at_32 (neg_ℤ (pos (2 ^ 31)))) ⊎ (at_32 (neg_ℤ (pos (2 ^ 31))) ≤F b)) → IsOneOf (between a b)
 unfolding IsNarrow

@@ -1,5 +1,5 @@
 -- What is computed in another order than the definition's holds the definition's number. Each operation on intervals gives the smallest
--- that holds the results of all members, so for each end it is enough that the two orders give one fraction.
+-- that holds the results of all members, so for each endpoint it is enough that the two orders give one fraction.
 use Rattle.std.proofs.Common.{arith, ◌≡◌, ◌<◌, ◌*◌, ◌+◌, ◌-◌, ℕ, zero, suc, refl, ℤ, pos, negsuc, ◌*ℤ◌, ◌+ℤ◌, ◌-ℤ◌, [], ◌∷◌, Bool, true, false, cond}
 use Rattle.std.proofs.lemmas.Int.{ints}
 use lib.IntN.{neg_ℤ}
@@ -25,7 +25,7 @@ use Rattle.book_model.specs.sky.Distance.{mean_distance, metre}
 use Rattle.book_model.specs.sky.Moonrise.{equator_radius, parallax_of, part_of_day, moment_of}
 
 -- ---- products with one number
--- the ends of a product with one number, where an interval holds the product of each end with it
+-- the endpoints of a product with one number, where an interval holds the product of each endpoint with it
 product_in : (a b f : Fraction) (j : Interval) → IsMember (times a f) j → IsMember (times b f) j → product (between a b) (exactly f) ⊆ j
 unfolding product
 product_in a b f everything l u = within_everything _
@@ -171,14 +171,14 @@ unscaled_negative : (y : Fraction) → IsNegative (times y kilometre_in_radii) �
 unfolding times
 unscaled_negative y h = record { under = omega (arith, ints, h.under) }
 
--- what holds the products of the ends holds the product
+-- what holds the products of the endpoints holds the product
 corners_in : (l u r s : Fraction) (j : Interval) → IsMember (times l r) j → IsMember (times l s) j → IsMember (times u r) j → IsMember (times u s) j
     → product (between l u) (between r s) ⊆ j
 unfolding product
 corners_in l u r s everything p q v w = within_everything _
 corners_in l u r s (between e f) p q v w = record { ends = (least_is e _ _ _ _ p.0 q.0 v.0 w.0, greatest_is f _ _ _ _ p.1 q.1 v.1 w.1) }
 
--- a product with one number, by its ends
+-- a product with one number, by its endpoints
 abbrev low_of : (a b f : Fraction) → Fraction
 low_of a b f = least (times a f) (times a f) (times b f) (times b f)
 
@@ -234,7 +234,7 @@ module _ (a b c d : Fraction) (p : a ≤F b) (q : c ≤F d) where
       same_member held (times x (reciprocal (times y kilometre_in_radii))) (times (times x equator_radius) (reciprocal y)) (same_sym (turned x y))
       (quotient_holds (between a b) low high x (times y kilometre_in_radii) low_high e h (scaled_member y k.0 k.1))
 
-  -- the ends of the scaled number over a number of the distance
+  -- the endpoints of the scaled number over a number of the distance
   ends_held : (y : Fraction) → excludes_zero low high ≡ true → IsMember y (between c d)
       → IsMember (times (low_of a b equator_radius) (reciprocal y)) held × IsMember (times (high_of a b equator_radius) (reciprocal y)) held
   ends_held y e k =

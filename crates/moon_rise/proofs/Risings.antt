@@ -1,5 +1,5 @@
--- What is known of the tests of a walk over the moments of a day: no test of a year is ever open, and the locations of the places are
--- such that every open test is close; and how many tests there are.
+-- What is known of the tests of a walk over the moments of a day: no test of a year is ever undecided, and the locations of the
+-- places are such that every undecided test is close; and how many tests there are.
 use Rattle.std.specs.Prelude.{◌≡◌, ℕ, zero, suc, ◌+◌, ◌*◌, ◌^◌, ◌&&◌, not, if◌then◌else◌, Bool, true, false, ℤ, Option, Some, None, Result, Ok, Err, IfErr, IfSome}
 use Rattle.std.proofs.Common.{arith}
 use Rattle.book_model.specs.Interval.{Interval, IsProper}
@@ -35,7 +35,7 @@ use Rattle.book_model.specs.sky.Moonrise.{observed_with_of, observed_of, up_of, 
 use Rattle.moon_rise.specs.Widths.{IsExact, IsDatedExact, IsSkyLocation}
 use Rattle.moon_rise.proofs.Heights.{place_is_sky}
 
--- a failure at an open year is none where the enclosure lies in one year
+-- a failure at an undecided year is none where the enclosure lies in one year
 pub never_of_year : {T : Type 0} (i : Interval) (r : Result T Fail) → HasOneYear i → IfErr r (IsYearOpenFor i) → IfErr r IsNotOfYear
 never_of_year i (Ok v) y h = tt
 never_of_year i (Err f) y h = closed_year i y.year f y.within y.fits h
@@ -49,7 +49,7 @@ found_is_sky place l e = by (location_of place) e (place_is_sky place)
     by (Some m) f k = let q : l ≡ m = cc in rw q k
 
 -- ---- what the altitude is taken of
--- a moment of the years of which there are corrections
+-- a moment of the years of which ΔT is known
 pub dated_exact : (i : Interval) → IsInTable i → IsExact i → IsDatedExact i
 dated_exact i t h = drawn TABLE_START TABLE_END _ _ (2 ^ 16) i t h
 
@@ -64,7 +64,7 @@ pub sidereal_never : {E : Type 0} (shown : E → Interval) (p : (e : E) → IsPr
 sidereal_never shown p t P (Ok v) h = tt
 sidereal_never shown p t P (Err f) h = absurd (sidereal_answers shown p t f h)
 
--- a comparison with 0 that is open is no test of a year
+-- a comparison with 0 that is undecided is no test of a year
 pub rise_elsewhere : {T : Type 0} (i j k : Interval) (r : Result T Fail) → IfErr r (IsOpenLess i j Rise) → IfErr r (IsYearOpenFor k)
 rise_elsewhere i j k (Ok v) h = tt
 rise_elsewhere i j k (Err (undecided_at u)) h = λ e. let s = h.1 in absurd (cc)

@@ -15,7 +15,7 @@ abbrev pub IsDistance : ℕ → Interval → Type 0
 IsDistance v i = IsWithin (pos (355000 * 2 ^ 32)) (pos (415000 * 2 ^ 32)) (greatest_of DISTANCE v) i
 
 -- ---- at a moment that is at most 2^-48 days wide
--- the moment, and one of the years of which there are corrections
+-- the moment, and one of the years of which ΔT is known
 abbrev pub IsExact : Interval → Type 0
 IsExact i = IsMoment (2 ^ 16) i
 

@@ -107,7 +107,7 @@ fn observed_with<E: Enclosure>(
 /// above the level of the horizon. The altitude (Reingold and Dershowitz, Calendrical Calculations, chapter 14), less the parallax, and
 /// as much more as the sun's middle stands below that level when its upper edge is seen to set. Five tests: the years of the
 /// obliquity, of the moon's longitude with the one at `moon-wrap`, of its latitude and of its distance. It is void at `year` in a year
-/// without a correction.
+/// without ΔT.
 #[tactic(auto, using(book_model::proofs::Leads::leading), unfolding(book_model::specs::sky::Moonrise::observed_of))]
 pub fn observed<E: Enclosure>(location: &Location, t: E, trail: &mut Trail) -> Result<E, Fail>
     ensures leads { Follows1 E.shown (spec.observed_of location.now) t trail.old.count

@@ -51,7 +51,7 @@ fn distance_at<E: Enclosure>(elements: MoonElements<E>) -> E
 
 /// The distance of the moon's centre from the earth's at a moment of universal time, in kilometres (Reingold and Dershowitz,
 /// Calendrical Calculations, chapter 14; Meeus, Astronomical Algorithms, chapter 47). One test, the year's. It is void at `year`
-/// in a year without a correction.
+/// in a year without ΔT.
 #[tactic(auto, using(book_model::proofs::Leads::leading), unfolding(book_model::specs::sky::Distance::distance_of))]
 pub fn distance<E: Enclosure>(t: E, trail: &mut Trail) -> Result<E, Fail>
     ensures leads { Follows1 E.shown spec.distance_of t trail.old.count trail.new.count result }

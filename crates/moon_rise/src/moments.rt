@@ -44,7 +44,7 @@ fn moment_by<E: Enclosure>(zone: Frac, day: i64, moment: u32) -> E
 }
 
 /// The moment of a number of a day (R.D.) at a place, in universal time. Where it is the day's number itself, the enclosure is exactly
-/// that; any other lies inside one day. So the year of a moment is never open.
+/// that; any other lies inside one day. So the year of a moment is never undecided.
 #[tactic(auto, using(crate::proofs::DayMoments::hours_small))]
 pub(crate) fn moment_at<E: Enclosure>(place: Place, day: i64, moment: u32) -> E
     requires few { moment ≤ 1536 }

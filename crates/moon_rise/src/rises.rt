@@ -58,8 +58,8 @@ impl<E: Enclosure, T: MomentTest<E>> MomentTest<E> for Opposite<T> {
 // is owed on it.
 /// The minute of a day (R.D.) at a place in which the moon rises, or -1 where it doesn't: of the quarters of an hour of the day the
 /// first at whose beginning it isn't up and at whose end it is, and in that, halved four times, the minute. 606 tests at most
-/// (`moonrise_few`). It is void at `year` in a year without a correction, and where the place has no location. No test of a year is ever
-/// open.
+/// (`moonrise_few`). It is void at `year` in a year without ΔT, and where the place has no location. No test of a year is ever
+/// undecided.
 #[tactic(auto, using(book_model::proofs::Leads::leading), unfolding(book_model::specs::sky::Kinds::located, book_model::specs::sky::Moonrise::moonrise_of))]
 pub fn moonrise<E: Enclosure>(place: Place, day: i64, trail: &mut Trail) -> Result<i64, Fail>
     ensures leads { Decides (located (location_of place) (λ l. moonrise_of place l day))

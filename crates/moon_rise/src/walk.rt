@@ -9,7 +9,7 @@ ghost use Rattle.time_scales.specs.Steps.{IsNotOfYear};
 use book_model::Fail;
 use encl_core::{Enclosure, Trail};
 
-/// The sixteenths of a quarter of an hour, and how often it is halved to come to one of them.
+/// The sixteenths of a quarter of an hour, and how often it is halved to reach one of them.
 const SIXTEENTHS: u32 = 16;
 
 const HALVINGS: u32 = 4;

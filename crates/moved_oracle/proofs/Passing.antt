@@ -13,7 +13,7 @@ use Rattle.moved_oracle.specs.declared.moving.Moved.{Moved}
 use Rattle.moved_oracle.specs.Moving.{Through, through, through_state}
 
 -- ---- an inquiry
--- what an inquiry comes to through it, the moved one comes to
+-- the result of an inquiry through it is that of the moved one
 tells_moved : {Known A : Type 0} {m : Meaning Known} {k : Through Known} {i : Inquiry A} {old new : List Fact} {r : Result A Stop}
     → Tells (through m) k i old new r → Tells m k.known (at_place k.place i) old new r
 unfolding moved

@@ -20,7 +20,7 @@ pub record Through (Known : Type 0) : Type 0 where
   pub place : Place
   pub name : ℕ
 
--- a fact is kept as the oracle beneath keeps the moved one; all else is that oracle's
+-- a fact is stored as the oracle beneath stores the moved one; all else is that oracle's
 abbrev pub through : {Known : Type 0} → Meaning Known → Meaning (Through Known)
 through m = record {
   value_of = λ k. m.value_of k.known;

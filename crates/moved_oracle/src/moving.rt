@@ -1,7 +1,7 @@
 //! An oracle that asks another one of the sky of another place.
 //!
 //! The inquiry itself is turned, fact by fact, so that the Chinese rules take no place and no rule stands twice. A law
-//! (`moves`) says what that comes to over each table of facts: the result over the table read at the place, and the
+//! (`moves`) says what that gives over each table of facts: the result over the table read at the place, and the
 //! same facts asked, moved.
 ghost use Rattle.std.specs.Prelude.{◌≡◌, IsTrue};
 ghost use Rattle.book_model.specs.calendars.Moving.{is_eastern, moved_fact};

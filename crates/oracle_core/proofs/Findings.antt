@@ -61,7 +61,7 @@ pub finds : {A : Type 0} {old new : State (Unit {0})} (n : ℕ) (i : Inquiry A) 
     ≡ facts_of es → Inquires by_evaluator i old new (Ok a) → finding n i ≡ found a es
 finds n i es a deep all none asked h = finds_over n [] es a deep h.tells refl none asked tt all
 
--- at a depth the inquiry asks a fact at which the oracle may stop
+-- at a depth the inquiry asks a fact at which the oracle may return early
 pub record StopsThere {A : Type 0} (n : ℕ) (i : Inquiry A) (s : Stop) : Type 0 where
   pub fact : Fact
   pub asks : AsksAt n i fact
@@ -74,7 +74,7 @@ stops_at n s deep (goes_on value rest) e = let t = stops_at n s deep rest e in r
     { fact = t.fact; asks = asks_after (value.is_true.at_each_depth n deep) t.asks; stop = t.stop }
 stops_at n s deep (stops {f = f} {s = z} fresh stop) e = let same : z ≡ s = cc in record { fact = f; asks = asks_here; stop = rw same at stop }
 
--- where the oracle stops, the inquiry asks that fact
+-- where the oracle returns early, the inquiry asks that fact
 pub stops_there : {A : Type 0} {i : Inquiry A} {old new : State (Unit {0})} {s : Stop} (n : ℕ) → 40 ≤ n → Inquires by_evaluator i old new (Err s)
     → StopsThere n i s
 stops_there {s = s} n deep h = stops_at n s deep h.tells refl

@@ -17,7 +17,7 @@ pub asked_value : {Known : Type 0} {m : Meaning Known} {v : ℤ} {old new : Stat
 unfolding ask_once
 asked_value {m = m} f same added value = record { same = same; tells = rw added (goes_on value ends) }
 
--- a fact that isn't in the list is answered by a stop, and the list stays
+-- a fact that isn't in the list is answered by an early return, and the list stays
 pub asked_stop : {Known : Type 0} {m : Meaning Known} {s : Stop} {old new : State Known} (f : Fact) → new.known ≡ old.known → new.asked ≡ old.asked
     → list_any (fact_eq (m.kept_as old.known f)) old.asked ≡ false → IsStopAt (m.may_stop old.known) (m.kept_as old.known f) s
     → Inquires m (ask_once f) old new (Err s)
@@ -46,7 +46,7 @@ pub inquires_then : {Known A B : Type 0} {m : Meaning Known} {i : Inquiry A} (ne
     → Inquires m i old mid (Ok a) → Inquires m (next a) mid new r → Inquires m (and_then i next) old new r
 inquires_then next h k = record { same = k.same ∙ h.same; tells = tells_then next h.tells (rw h.same at k.tells) }
 
--- an inquiry stops, and so does one that begins with it
+-- an inquiry returns early, and so does one that begins with it
 pub inquires_stop : {Known A B : Type 0} {m : Meaning Known} {i : Inquiry A} (next : A → Inquiry B) {old new : State Known} {s : Stop}
     → Inquires m i old new (Err s) → Inquires m (and_then i next) old new (Err s)
 inquires_stop next h = record { same = h.same; tells = tells_stop next h.tells }

@@ -1,4 +1,4 @@
--- Facts that are kept with true values.
+-- Facts that are stored with true values.
 use Rattle.std.proofs.Common.{◌≡◌, ℕ, suc, ◌+◌, ◌<◌, Bool, true, false, cond, not, refl, List, [], ◌∷◌, ◌++◌, length, get_or, ℤ, arith, ap, sym}
 use Rattle.std.specs.Prelude.{Option, Some}
 use Rattle.std.specs.List.{list_any, position_or_len, position}

@@ -6,22 +6,22 @@ use Rattle.book_model.specs.calendars.Inquiries.{Inquiry, done, ask, fact_eq, wi
 use Rattle.oracle_core.specs.declared.oracle.Stop.{Stop}
 use Rattle.oracle_core.specs.Stops.{IsStopAt}
 
--- What an oracle's knowledge says of facts: which values a fact that is kept has, under which fact a fact is kept, and
--- which stops may be answered for a fact that is kept.
+-- What an oracle's knowledge says of facts: which values a fact that is stored has, under which fact a fact is stored,
+-- and which early returns may be answered for a fact that is stored.
 pub record Meaning (Known : Type 0) : Type 1 where
   pub value_of : Known → Fact → ℤ → Type 0
   pub kept_as : Known → Fact → Fact
   pub may_stop : Known → Fact → Stop → Type 0
 
--- what an oracle knows, and the facts under which those asked so far are kept, each once, in order of first use
+-- what an oracle knows, and the facts under which those asked so far are stored, each once, in order of first use
 pub record State (Known : Type 0) : Type 0 where
   pub known : Known
   pub asked : List Fact
 
 -- What a result says of an inquiry by this knowledge, where the first list of facts were asked before it and the second
 -- ones after it. An inquiry that is done has its result. One that asks a fact goes on with a value that is known of it,
--- and the fact under which it is kept joins the list; or it ends with a stop that may come there, at a fact that isn't in
--- the list.
+-- and the fact under which it is stored joins the list; or it ends with an early return that may come there, at a fact
+-- that isn't in the list.
 pub data Tells {Known A : Type 0} (m : Meaning Known) (k : Known) : Inquiry A → List Fact → List Fact → Result A Stop → Type 0 where
   ends : {a : A} {asked : List Fact} → Tells m k (done a) asked asked (Ok a)
   goes_on : {f : Fact} {v : ℤ} {next : ℤ → Inquiry A} {old new : List Fact} {r : Result A Stop} → m.value_of k (m.kept_as k f) v

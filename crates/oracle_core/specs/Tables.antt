@@ -7,7 +7,7 @@ use Rattle.oracle_core.specs.Inquiring.{Meaning, State}
 use Rattle.oracle_core.specs.Pairs.{IsFront}
 use Rattle.oracle_core.specs.Stops.{IsStopAt}
 
--- the table gives each of these facts the value that is known of the fact under which it is kept
+-- the table gives each of these facts the value that is known of the fact under which it is stored
 abbrev pub AgreesOn : {Known : Type 0} → Meaning Known → Known → List Fact → (Fact → ℤ) → Type 0
 AgreesOn m k [] table = Unit {0}
 AgreesOn m k (f ∷ fs) table = ((v : ℤ) → m.value_of k (m.kept_as k f) v → table f ≡ v) × AgreesOn m k fs table
@@ -31,7 +31,7 @@ pub record AnswersOver {Known A : Type 0} (m : Meaning Known) (i : Inquiry A) (o
   pub over : (table : Fact → ℤ) → AgreesOn m old.known facts table → ComesTo i table facts a
 
 -- Facts were asked of which values are known, and joined the list in order. Over every table that agrees on them the
--- inquiry asks these first, and then the one at which the oracle stopped.
+-- inquiry asks these first, and then the one at which the oracle returned early.
 pub record StopsOver {Known A : Type 0} (m : Meaning Known) (i : Inquiry A) (old new : State Known) (s : Stop) : Type 0 where
   pub before : List Fact
   pub fact : Fact

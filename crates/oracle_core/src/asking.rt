@@ -15,8 +15,8 @@ use std::alloc::{AllocError, Global};
 use std::marker::Model;
 
 // One list, so that a line whose rule asks few facts takes one allocation for them at most.
-/// Answers facts by an evaluator, and keeps each fact that was answered with its value, in order of first use. A
-/// fact that is kept isn't evaluated again.
+/// Answers facts by an evaluator, and stores each fact that was answered with its value, in order of first use. A
+/// fact that is stored isn't evaluated again.
 #[derive(Drop)]
 pub struct Asking<'a, E: Evaluator> {
     evaluator: &'a E,
@@ -57,7 +57,7 @@ impl<'a, E: Evaluator> Asking<'a, E> {
         self.kept
     }
 
-    /// Keeps a fact that isn't kept yet with its value. Where memory runs out nothing changes.
+    /// Stores a fact that isn't stored yet with its value. Where memory runs out nothing changes.
     fn keep(&mut self, fact: Fact, value: i64) -> Result<(), AllocError>
         requires new { list_any (fact_eq fact) (facts_of self.old) ≡ false }
         requires stands { StandsWith fact value }
@@ -68,7 +68,7 @@ impl<'a, E: Evaluator> Asking<'a, E> {
         Ok(())
     }
 
-    /// The value of a fact that isn't kept yet, by the evaluator; then it is kept. A stop changes nothing.
+    /// The value of a fact that isn't stored yet, by the evaluator; then it is stored. An early return changes nothing.
     fn evaluate(&mut self, fact: Fact) -> Result<i64, Stop>
         requires new { list_any (fact_eq fact) (facts_of self.old) ≡ false }
         ensures asks { Inquires by_evaluator (ask_once fact) (after_pairs self.old)
@@ -97,8 +97,8 @@ impl<'a, E: Evaluator> Oracle for Asking<'a, E> {
 
     fn ask(&mut self, fact: Fact) -> Result<i64, Stop> {
         match place_among_pairs(self.kept.entries(), fact) {
-            // Never a stop again at a fact that was asked, for want of memory either: its value is
-            // kept.
+            // Never an early return again at a fact that was asked, not even out of memory: its value is
+            // stored.
             Some(place) => Ok(self.kept.item(place).1),
             None => self.evaluate(fact),
         }

@@ -25,12 +25,12 @@ pub trait CalendarDate: Copy + Drop {
     // It asks for fields that the calendar may have, of a year that some version answers, and
     // `of_day` for a day whose date the calendar tells: both read the calendar's row, so no
     // condition has a number of a range.
-    /// The day (R.D.) that the fields of a date name. It stops where the oracle stops.
+    /// The day (R.D.) that the fields of a date name. It returns early where the oracle does.
     fn day_by<O: Oracle>(oracle: &mut O, fields: &Fields) -> Result<i64, Stop>
         requires askable { IsAskable calendar fields.now }
         ensures day { Asks O.Oracle (day_named calendar fields.now) oracle.old oracle.new result };
 
-    /// The date of a day (R.D.). It stops where the oracle stops.
+    /// The date of a day (R.D.). It returns early where the oracle does.
     fn of_day<O: Oracle>(oracle: &mut O, day: i64) -> Result<Self, Stop>
         requires day { IsDateDay calendar day }
         ensures date { AsksAs fields_of O.Oracle (date_on calendar day) oracle.old oracle.new result };

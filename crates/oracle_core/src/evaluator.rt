@@ -3,7 +3,7 @@
 //! The contract stands below the code that evaluates, so that an oracle over any evaluator is proved once.
 use book_model::{Fact, Site, Undecided};
 
-/// The answer for a fact: its value, a test that the enclosures leave open, or the site where it has no value.
+/// The answer for a fact: its value, a test that the enclosures leave undecided, or the site where it has no value.
 #[derive(Clone, Copy, Debug, PartialEq, Eq)]
 pub enum Answer {
     Value(i64),

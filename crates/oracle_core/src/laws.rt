@@ -7,8 +7,8 @@ ghost use Rattle.oracle_core.specs.declared.oracle.Stop.{Stop};
 
 use crate::Oracle;
 
-/// What comes of an inquiry by an oracle's knowledge is what it comes to over every table that gives each fact that was
-/// asked the value which the oracle has beside the fact under which it is kept, whatever the table gives others.
+/// What comes of an inquiry by an oracle's knowledge is its result over every table that gives each fact that was
+/// asked the value which the oracle has beside the fact under which it is stored, whatever the table gives others.
 #[tactic(auto, using(crate::proofs::Tables::answers_over, crate::proofs::Tables::stops_over))]
 pub fn tables<T, O: Oracle>()
     ensures answers { (i : Inquiry T) (old new : State O.Known) (a : T)

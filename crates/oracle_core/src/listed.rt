@@ -66,7 +66,7 @@ impl<'a> Oracle for Listed<'a> {
             // is the only one; a law of the trait can't see that.
             Some(place) => {
                 let value = self.values[place];
-                // It wants memory for a fact that it notes for the first time alone.
+                // It needs memory for a fact that it notes for the first time alone.
                 self.asked.note(fact)?;
                 Ok(value)
             }

@@ -8,7 +8,7 @@ ghost use Rattle.oracle_core.specs.declared.oracle.Stop.TheVariants.{Memory as m
 use book_model::{Fact, Site, Undecided};
 use std::alloc::{AllocError, AllocFailed};
 
-/// Why a fact has no answer: a test of it is open, it has no value, it isn't known to the oracle, or memory ran out.
+/// Why a fact has no answer: a test of it is undecided, it has no value, it isn't known to the oracle, or memory ran out.
 #[derive(Clone, Copy, Debug, PartialEq, Eq)]
 pub enum Stop {
     Undecided(Fact, Undecided),
@@ -33,13 +33,13 @@ impl<T: Drop> From<AllocFailed<T>> for Stop {
     }
 }
 
-// One relation, `Inquires`, says what a call that asks comes to, for an answer and a stop alike, by
+// One relation, `Inquires`, says what a call that asks gives, for an answer and an early return alike, by
 // the states before and after; it joins call by call, as a rule's definition does by `and_then`.
-/// Answers facts. Each fact is kept under a fact, mostly itself, and has at most one value.
+/// Answers facts. Each fact is stored under a fact, mostly itself, and has at most one value.
 pub trait Oracle {
     ghost use Rattle.oracle_core.specs.Inquiring.{Meaning, State, Inquires};
 
-    // A type of its own, so that values, keeping and stops are one function of it (`meaning`), and
+    // A type of its own, so that values, keeping and early returns are one function of it (`meaning`), and
     // a call has one clause in place of one for each.
     /// What the oracle knows, which never changes.
     ghost Known: { Type 0 };
@@ -47,12 +47,12 @@ pub trait Oracle {
     /// What that says of facts.
     ghost meaning: { Meaning Self.Known };
 
-    /// What it knows, and the facts under which the facts asked so far are kept, each once, in order of first use.
+    /// What it knows, and the facts under which the facts asked so far are stored, each once, in order of first use.
     ghost state: { Self → State Self.Known };
 
-    /// The value of a fact, from -10,000,000 to 10,000,000. The fact under which it is kept is added at the end of the
-    /// list of facts asked, unless it is there. A stop, of which each but want of memory names the fact under
-    /// which the fact is kept, leaves that list as it was; it never comes at a fact that is in the list.
+    /// The value of a fact, from -10,000,000 to 10,000,000. The fact under which it is stored is added at the end of the
+    /// list of facts asked, unless it is there. An early return, of which each but that out of memory names the fact
+    /// under which the fact is stored, leaves that list as it was; it never comes at a fact that is in the list.
     fn ask(&mut self, fact: Fact) -> Result<i64, Stop>
         ensures asks { Inquires Self.meaning (ask_once fact) (Self.state self.old)
             (Self.state self.new) result }

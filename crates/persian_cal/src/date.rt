@@ -71,8 +71,8 @@ fn date_from_number(year: i64, number: i64) -> PersianDate
     }
 }
 
-// What is computed between two questions is done by functions with contracts in the definition's
-// words, of a sum in an argument too: so the calls that ask need no proof of their own.
+// What is computed between two questions, be it a sum in an argument, stands in functions whose contracts are in the
+// definition's words: so the calls that ask need no proof of their own.
 /// The date of a day (R.D.) by the first day of its year.
 fn date_from_facts(year: i64, new_year: i64, day: i64) -> PersianDate
     requires year { IsNearYear year }
@@ -97,9 +97,9 @@ fn day_by(new_year: i64, month: i64, day: i64) -> i64
 }
 
 /// The date of a day (R.D.): the year that begins nearest to the first day which the oracle has for the day, with the
-/// month and the day of the month that follow from that year's own first day. A month that its type doesn't hold stands
-/// at the nearest end; year and day always fit. It stops where the oracle stops, at one of the two facts that are
-/// asked (Reingold and Dershowitz, Calendrical Calculations, chapter 15).
+/// month and the day of the month that follow from that year's own first day. A month that its type doesn't hold is
+/// clamped to the nearest bound; year and day always fit. It returns early where the oracle does, at one of the two
+/// facts that are asked (Reingold and Dershowitz, Calendrical Calculations, chapter 15).
 ///
 /// ```
 /// let evaluator = Staged::new();
@@ -118,8 +118,8 @@ pub fn from_fixed<O: Oracle>(oracle: &mut O, day: i64) -> Result<PersianDate, St
 }
 
 /// The day (R.D.) of a date: the first day of the year which the oracle has, the days of the months before, and the day
-/// of the month. The date needn't be one that the calendar has. It stops where the oracle stops, at the fact of the
-/// year's first day (Reingold and Dershowitz, Calendrical Calculations, chapter 15).
+/// of the month. The date needn't be one that the calendar has. It returns early where the oracle does, at the fact of
+/// the year's first day (Reingold and Dershowitz, Calendrical Calculations, chapter 15).
 ///
 /// ```
 /// let evaluator = Staged::new();

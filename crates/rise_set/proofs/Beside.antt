@@ -79,7 +79,7 @@ no_cell_beside k (between a b) e =
     let s = same_cells k (floor a) (floor b) false (no_cell (int_eq (floor a) (floor b)) (floor a) e) in
     rw (floor_beside k a, floor_beside k b, s) refl
 
--- ---- ends
+-- ---- bounds
 end_beside : (k n m : ℤ) → m ≡ n +ℤ k *ℤ ONE → units_of_56 m ≈ plus (whole k) (units_of_56 n)
 unfolding plus
 end_beside k n m e = record { cross = omega (arith, ints, e) }
@@ -111,7 +111,7 @@ open_anywhere : (w : World) (x : Expression) (b a : ℕ) (u : Undecided) → Are
 unfolding cell_at
 open_anywhere w x b a u e n m = leads_open_cell integers x everything answer a u (within_everything _) n m (between_cells refl (no_bounds e))
 
--- ends that stand for no bounds stay so where they are moved
+-- the bounds that stand for an unbounded test stay so where they are moved
 stays_unbounded : (k lo hi low high : ℤ) → AreNoBounds lo hi → low ≡ lo +ℤ k *ℤ ONE → high ≡ hi +ℤ k *ℤ ONE → negsuc (2 ^ 127 - 1) ≤ℤ low
     → high ≤ℤ pos (2 ^ 127 - 1) → AreNoBounds low high
 stays_unbounded k lo hi low high n e f p q = record {

@@ -1,4 +1,4 @@
--- of sun_core, given on
+-- of sun_core, re-exported
 pub use Rattle.sun_core.proofs.NewYears
 pub mod Settling
 pub mod Beside

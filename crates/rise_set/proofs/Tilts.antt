@@ -1,4 +1,4 @@
--- The obliquity of the ecliptic at a moment: it is narrow, and only the test of the year is ever open.
+-- The obliquity of the ecliptic at a moment: it is narrow, and only the test of the year is ever undecided.
 use Rattle.std.specs.Prelude.{ℕ, ◌+◌, ◌/◌, ◌^◌, ◌≤◌, Result, Ok, Err, IfErr}
 use Rattle.std.proofs.Common.{arith}
 use Rattle.std.proofs.lemmas.Int.{ints}

@@ -1,4 +1,4 @@
--- of sun_core, given on
+-- of sun_core, re-exported
 pub use Rattle.sun_core.specs.Widths as SunWidths
 pub mod Moved
 pub mod Horizons

@@ -19,8 +19,8 @@ use book_model::{Fail, Site, Twilight};
 use encl_core::{Enclosure, Trail, floor_step};
 use sun_core::{arcsin_deg, from_apparent};
 
-// Sums of enclosures and not of numbers: these don't leave their type for any day that a floor may
-// give.
+// Sums of enclosures and not of numbers: they can't overflow, whatever day a floor
+// gives.
 /// When the sun rises or sets on a day (R.D.) at the equinox, in apparent time: at 6 or at 18 hours.
 #[tactic(auto, unfolding(book_model::specs::sky::Horizon::quarter_of))]
 pub(crate) fn quarter<E: Enclosure>(twilight: Twilight, day: i64) -> E
@@ -79,8 +79,8 @@ fn approximation_on<E: Enclosure>(
 }
 
 /// The moment at which the sun has a depression, from one near to it, both in local mean time (Reingold and Dershowitz, Calendrical
-/// Calculations, chapter 14): ten tests at most (`approximation_few`). It is void at `offset` where the sun doesn't come to it, and
-/// at `year` in a year without a correction.
+/// Calculations, chapter 14): ten tests at most (`approximation_few`). It is void at `offset` where the sun doesn't reach it, and
+/// at `year` in a year without ΔT.
 #[tactic(auto, using(book_model::proofs::Leads::leading), unfolding(book_model::specs::sky::Horizon::approximation_of))]
 pub(crate) fn approximation<E: Enclosure>(
     horizon: &Horizon<E>,

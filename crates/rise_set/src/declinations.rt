@@ -30,7 +30,7 @@ pub fn universal<E: Enclosure>(longitude: Frac, t: E) -> E
 }
 
 /// The obliquity of the ecliptic at a moment of universal time, in degrees (Reingold and Dershowitz, Calendrical Calculations, chapter
-/// 14): one test, at `year`. It is void at `year` in a year without a correction.
+/// 14): one test, at `year`. It is void at `year` in a year without ΔT.
 #[tactic(auto, using(book_model::proofs::Leads::leading), unfolding(book_model::specs::sky::Crescent::obliquity_at_of))]
 pub fn obliquity_at<E: Enclosure>(t: E, trail: &mut Trail) -> Result<E, Fail>
     ensures leads { Follows1 E.shown obliquity_at_of t trail.old.count trail.new.count result }
@@ -52,7 +52,7 @@ fn declination_by<E: Enclosure>(obliquity: E, longitude: E) -> E
 
 /// The declination of the sun at a moment of universal time, in degrees (Reingold and Dershowitz, Calendrical Calculations, chapter
 /// 14): three tests at most (`declination_few`), at `year` and those of the sun's longitude. It is void at `year` in a year without
-/// a correction.
+/// ΔT.
 #[tactic(auto, using(book_model::proofs::Leads::leading), unfolding(book_model::specs::sky::Horizon::declination_of))]
 pub fn declination<E: Enclosure>(t: E, trail: &mut Trail) -> Result<E, Fail>
     ensures leads { Follows1 E.shown spec.declination_of t trail.old.count trail.new.count result }

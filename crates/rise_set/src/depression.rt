@@ -83,8 +83,8 @@ fn moment_of_depression<E: Enclosure>(
 }
 
 /// Dawn of a day (R.D.), when the sun before rising has a depression, in degrees; in local mean time (Reingold and Dershowitz,
-/// Calendrical Calculations, chapter 14). It is void at `offset` where the sun doesn't come to the depression, at
-/// `settle` where twelve approximations don't settle, and at `year` in a year without a correction.
+/// Calendrical Calculations, chapter 14). It is void at `offset` where the sun doesn't reach the depression, at
+/// `settle` where twelve approximations don't settle, and at `year` in a year without ΔT.
 #[tactic(auto, unfolding(book_model::specs::sky::Horizon::dawn_of))]
 pub fn dawn<E: Enclosure>(
     location: &Location,

@@ -8,8 +8,9 @@
 //! - `refraction`, `sunset`: the depression of the sun's upper edge, and when it sets;
 //! - `sunrise`, `hsunset`: sunrise and sunset at Ujjain as the Hindu calendars take them;
 //! - `altitude_sine`: the sine of the moon's altitude;
-//! - `Horizon` with `dusk_at`, `Sunsets`, `HinduSunsets`: the same of many days, with what a location asks for computed once;
-//! - sines and the arcsine, given on to the formulas above.
+//! - `Horizon` with `dusk_at`, `Sunsets`, `HinduSunsets`: the same of many days, with what depends on the location alone
+//!   computed once;
+//! - sines and the arcsine, re-exported to the formulas above.
 #![tactic(auto)]
 
 mod altitude;

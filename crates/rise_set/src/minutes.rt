@@ -17,7 +17,7 @@ use book_model::{Fail, Site, Undecided};
 use encl_core::parts::ONE;
 use encl_core::{Enclosure, Trail, floor_step};
 
-/// A number that counts 2⁻⁵⁶ with a whole number added, where it has 128 bits.
+/// A number in units of 2⁻⁵⁶ with a whole number added, where the sum fits 128 bits.
 fn shifted_end(end: i128, whole: i64) -> Option<i128>
     ensures end { IfSome result (λ e. e ≡ end +ℤ whole *ℤ ONE) }
     ensures found { FitsSigned w128 (end +ℤ whole *ℤ ONE) → IsSome result }
@@ -25,8 +25,9 @@ fn shifted_end(end: i128, whole: i64) -> Option<i128>
     end.checked_add(i128::from(whole) * ONE)
 }
 
-// The test is one of the sum, and so are its ends.
-/// The open test of a number, where a whole number is added to it; with ends that have no 128 bits it has none.
+// The test is one of the sum, and so are its bounds.
+/// The undecided test of a number, where a whole number is added to it; where a bound doesn't fit 128 bits any more, it is
+/// an unbounded test.
 fn shifted_by(at: Undecided, whole: i64) -> Undecided
     ensures turn { result.turn ≡ at.turn }
     ensures site { result.site ≡ at.site }
@@ -61,7 +62,7 @@ fn shifted_failure(fail: Fail, whole: i64) -> Fail
     }
 }
 
-/// The sum of two whole numbers; where it has more than 64 bits, the test of this number is open.
+/// The sum of two whole numbers; where it has more than 64 bits, the test of this number is undecided.
 fn sum(whole: i64, floor: i64, site: Site, turn: u32) -> Result<i64, Fail>
     ensures decided { IfOk result (λ q. q ≡ whole +ℤ floor) }
     ensures far { IfErr result (IsTooFar site turn (whole +ℤ floor)) }
@@ -107,8 +108,8 @@ fn minutes_after<E: Enclosure>(day: i64, t: E) -> E
         .add(E::from_frac(HALF))
 }
 
-// By the minutes of the day: 1440 times a moment (R.D.) has no place among coarse enclosures, whose
-// numbers are below 134,000,000.
+// By the minutes of the day: 1440 times a moment (R.D.) doesn't fit a coarse enclosure, whose numbers are below
+// 134,000,000.
 /// The minutes from the day of R.D. 0 to a moment of a day, rounded: one test, at `round`.
 #[tactic(auto, unfolding(book_model::specs::sky::Horizon::rounded_minutes_of))]
 pub(crate) fn rounded_minutes<E: Enclosure>(day: i64, t: E, trail: &mut Trail) -> Result<i64, Fail>

@@ -30,14 +30,14 @@ pub(crate) fn size<E: Enclosure>(x: E) -> E
     x.max(x.neg())
 }
 
-/// What the tangent of the latitude and the declination make of the offset.
+/// The first term of the offset: the tangent of the latitude times that of the declination.
 fn by_declination<E: Enclosure>(tangent: E, declination: E) -> E
     ensures encloses { Encloses2 E.shown E.BITS by_tangent tangent declination result }
 {
     tangent.mul(tan_deg(declination))
 }
 
-/// What the sine of the depression, the cosine of the latitude and the declination make of it.
+/// The second term: the sine of the depression over the cosines of the latitude and of the declination.
 fn by_depression<E: Enclosure>(sine: E, cosine: E, declination: E) -> E
     ensures encloses { Encloses3 E.shown E.BITS by_sine sine cosine declination result }
 {
@@ -76,7 +76,7 @@ fn offset_at<E: Enclosure>(horizon: &Horizon<E>, t: E, trail: &mut Trail) -> Res
 
 /// The sine of the hour angle at which the sun has a depression, in degrees, less a quarter of a turn, by the declination of the
 /// sun at a moment of local mean time (Reingold and Dershowitz, Calendrical Calculations, chapter 14): three tests at most
-/// (`offset_few`). It is void at `year` in a year without a correction.
+/// (`offset_few`). It is void at `year` in a year without ΔT.
 pub fn offset<E: Enclosure>(
     location: &Location,
     depression: E,
@@ -93,7 +93,7 @@ pub fn offset<E: Enclosure>(
     offset_at(&horizon, t, trail)
 }
 
-/// Whether an offset is no sine, so that the sun doesn't come to the depression: one test.
+/// Whether an offset is no sine, so that the sun doesn't reach the depression: one test.
 #[tactic(auto, using(book_model::proofs::Leads::leading), unfolding(book_model::specs::sky::Horizon::is_out_of_reach, book_model::specs::programs::Leading::next_turn))]
 fn is_out_of_reach<E: Enclosure>(offset: E, trail: &mut Trail) -> Result<bool, Fail>
     ensures leads { Decides1 E.shown spec.is_out_of_reach offset trail.old.count trail.new.count
@@ -118,8 +118,8 @@ fn if_reached<E: Enclosure>(offset: E, out: bool, trail: &mut Trail) -> Result<E
     }
 }
 
-/// The offset at a moment of local mean time: four tests at most (`reached_few`). It is void at `offset` where the sun doesn't come
-/// to the depression.
+/// The offset at a moment of local mean time: four tests at most (`reached_few`). It is void at `offset` where the sun doesn't
+/// reach the depression.
 #[tactic(auto, using(book_model::proofs::Leads::leading), unfolding(book_model::specs::sky::Horizon::reached_offset_of))]
 fn reached_offset<E: Enclosure>(horizon: &Horizon<E>, t: E, trail: &mut Trail) -> Result<E, Fail>
     ensures leads { FollowsHorizon E.shown (spec.reached_offset_of horizon.now.location) horizon.now
@@ -142,7 +142,7 @@ fn edge_of_day<E: Enclosure>(twilight: Twilight, day: i64) -> E
     }
 }
 
-/// An offset, or, where the sun doesn't come to the depression, that at the edge of the day: four tests at most (`edge_few`).
+/// An offset, or, where the sun doesn't reach the depression, that at the edge of the day: four tests at most (`edge_few`).
 #[tactic(auto, using(book_model::proofs::Leads::leading), unfolding(book_model::specs::sky::Horizon::or_at_edge))]
 fn offset_or_at_edge<E: Enclosure>(
     horizon: &Horizon<E>,
@@ -164,8 +164,8 @@ fn offset_or_at_edge<E: Enclosure>(
     }
 }
 
-/// The offset at a moment of local mean time of a day (R.D.), or at the edge of the day where the sun doesn't come to the
-/// depression then: eight tests at most (`near_few`). It is void at `offset` where it doesn't come to it there either.
+/// The offset at a moment of local mean time of a day (R.D.), or at the edge of the day where the sun doesn't reach the
+/// depression then: eight tests at most (`near_few`). It is void at `offset` where it doesn't reach it there either.
 #[tactic(auto, using(book_model::proofs::Leads::leading), unfolding(book_model::specs::sky::Horizon::near_offset_of))]
 pub(crate) fn offset_near<E: Enclosure>(
     horizon: &Horizon<E>,

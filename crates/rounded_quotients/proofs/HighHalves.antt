@@ -1,4 +1,4 @@
--- The high half of a product of two numbers of 64 bits, and numbers that count 2^-64 as multiples of it.
+-- The high half of a product of two numbers of 64 bits, and numbers in units of 2^-64 as multiples of it.
 use Rattle.std.proofs.Common.{◌≡◌, ℕ, ◌+◌, ◌*◌, ◌/◌, ◌-◌, ◌^◌, ◌≤◌, arith, ℤ, pos, ◌+ℤ◌, ◌-ℤ◌}
 use Rattle.std.proofs.lemmas.Int.{ints}
 use Rattle.std.proofs.Math.Nat.{mul-le-mul_right}

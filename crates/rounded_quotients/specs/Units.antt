@@ -1,8 +1,8 @@
--- Numbers in 64 bits that count 2^-64, and what is near them.
+-- Numbers of 64 bits in units of 2^-64, and what is near them.
 use Rattle.std.specs.Prelude.{ℕ, ℤ, pos, ◌-◌, ◌^◌, ◌-ℤ◌, ◌+ℤ◌}
 use Rattle.exact_math.specs.Fraction.{Fraction, ◌≤F◌}
 
--- a number that counts 2^-64
+-- a number in units of 2^-64
 abbrev pub at_64 : ℤ → Fraction
 at_64 n = record { num = n; below = 2 ^ 64 - 1 }
 

@@ -1,8 +1,8 @@
-//! Quotients of counts of days, months and years, rounded down and up, and what they leave, as the definitions take them.
+//! Quotients of counts of days, months and years, rounded down and up, and their remainders, as the definitions take them.
 //!
 //! Numbers from -50,000,000 to 50,000,000 are asked for, so that products with the parts of a span fit the word; the
-//! calendars' days and years are a fiftieth of that. Divisors are above 0: each is a constant, a denominator, or an end
-//! that was tested, so no answer tells that there is none.
+//! calendars' days and years are a fiftieth of that. Divisors are above 0: each is a constant, a denominator, or an
+//! endpoint that was tested, so no answer tells that there is none.
 ghost use Rattle.std.specs.Prelude.{◌≡◌, ◌<◌, pos, ◌≤ℤ◌, ◌<ℤ◌, ◌-ℤ◌, ◌*ℤ◌};
 ghost use Rattle.exact_math.specs.Quotients.{quotient_down, quotient_up as quotient_up_of, amod as amod_of, modulo as modulo_of};
 ghost use Rattle.rounded_quotients.specs.Counts.{IsCount};
@@ -15,7 +15,7 @@ pub fn wide_quotient(number: i128, divisor: u64) -> i128
     number.div_euclid(i128::from(divisor))
 }
 
-// In the definitions a divisor stands as itself, as the rules are read; 0 is read as 1 there.
+// The definitions take a divisor of any size, and read 0 as 1.
 /// The least whole number that isn't below the quotient.
 pub fn quotient_up(number: i64, divisor: u8) -> i64
     requires positive { 0 < divisor }

@@ -87,7 +87,7 @@ fn rest_of(number: i64, times: i64, d: i64) -> u64
     (i128::from(number) - i128::from(times) * i128::from(d)) as u64
 }
 
-/// The upper part of a number, which counts 2²⁹, rounded down.
+/// The upper part of a number, in units of 2²⁹, rounded down.
 #[inline(always)]
 fn upper_part(number: i128) -> i128
     ensures floor { IsFloor result number (pos (2 ^ 29)) }
@@ -95,7 +95,7 @@ fn upper_part(number: i128) -> i128
     number >> 29
 }
 
-/// What is left of a number above its upper part, which counts 2²⁹.
+/// What is left of a number above its upper part, in units of 2²⁹.
 #[inline(always)]
 fn low_part(number: i128, upper: i128) -> u64
     requires { IsFloor upper number (pos (2 ^ 29)) }

@@ -1,4 +1,4 @@
-//! Exact steps on whole numbers of 128 bits, of which the ends of enclosures are made: quotients rounded down and up,
+//! Exact steps on whole numbers of 128 bits, of which the endpoints of enclosures are made: quotients rounded down and up,
 //! taken in 64 bits where that can be, and the lesser and the greater of numbers; and the quotients of counts that dates and
 //! formulas share.
 //!
@@ -6,7 +6,7 @@
 //! - `high_half`: the high half of a product;
 //! - `sorted`, `least_of`, `greatest_of`: numbers in order, the least and the greatest of four;
 //! - `quotient`, `quotient_up`, `quotient_before`, `wide_quotient`: quotients of counts as the definitions take them, and
-//!   `modulo` and `amod`: what they leave, from 0 and from 1 on.
+//! `modulo` and `amod`: their remainders, from 0 and from 1 on.
 #![tactic(auto)]
 
 mod counts;

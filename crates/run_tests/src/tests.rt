@@ -1,5 +1,5 @@
-//! The top call over streams that fail, end early or give and take little at a time, over evaluators that leave facts open or
-//! count them, and by several jobs. What the text is where nothing fails, the rows under `tests/rows` show on the built program.
+//! The top call over streams that fail, end early or give and take little at a time, over evaluators that leave facts undecided or
+//! count them, and by several threads. What the text is where nothing fails, the rows under `tests/rows` show on the built program.
 mod damaged;
 mod evaluators;
 mod faults;
@@ -30,7 +30,7 @@ const COUNTS: &str = "yes 1\nend yes 1 no 0 skip 0\n";
 /// What `sample 1 0` writes.
 const SAMPLE: &str = "sample 1 0 decided 1 undecided 0 void 0 refused 0 facts 1\n";
 
-/// Words of their own.
+/// Owned arguments.
 fn words_of(alloc: Global, words: &[&str]) -> Result<Vec<String>, Fail> {
     let mut owned = Vec::new(alloc);
     for word in words {
@@ -95,7 +95,7 @@ fn assert_run<R: Threads + Abort + Sync>(
     Ok(())
 }
 
-/// Words, the input, which read fails, the room for the output, how the run ends, and what it writes as far as there is room.
+/// Arguments, the input, which read fails, the room for the output, how the run ends, and what it writes as far as there is room.
 type Row = (
     &'static [&'static str],
     &'static str,
@@ -111,7 +111,7 @@ static ROWS: [Row; 35] = [
     (&["convert"], ROW, 1, 1000, Status::ReadFault, ""),
     (&["convert"], ROW, 2, 1000, Status::ReadFault, ""),
     (&["convert"], ROW, 3, 1000, Status::Done, ROW_TEXT),
-    // A full sink keeps a front of the text.
+    // A full sink keeps a prefix of the text.
     (&["convert"], ROW, 0, 0, Status::WriteFault, ROW_TEXT),
     (&["convert"], ROW, 0, 10, Status::WriteFault, ROW_TEXT),
     (&["convert"], ROW, 0, 111, Status::WriteFault, ROW_TEXT),
@@ -130,7 +130,7 @@ static ROWS: [Row; 35] = [
     (&["upgrade"], OLDER_TEXT, 0, 159, Status::Done, NEWER_TEXT),
     (&["upgrade"], NEWER_TEXT, 0, 7, Status::WriteFault, "bad 1 1\n"),
     (&["upgrade"], NEWER_TEXT, 0, 8, Status::BadText, "bad 1 1\n"),
-    // Other words are answered by the usage line, and nothing is read: the first read would fail.
+    // Other arguments are answered by the usage line, and nothing is read: the first read would fail.
     (&[], "", 1, 1000, Status::Words, USAGE),
     (&[], "", 1, 5, Status::WriteFault, USAGE),
     (&[""], "", 1, 1000, Status::Words, USAGE),

@@ -62,7 +62,7 @@ fn first_rows_of<T, N, W, V>(
     Ok(rows)
 }
 
-// Counted when a shelf is opened, over the table of kinds: a kind or a place more wants nothing
+// Counted when a shelf is opened, over the table of kinds: a kind or a place more needs nothing
 // here.
 /// The first row of each kind. The error comes where memory runs out.
 pub(crate) fn first_rows(alloc: Global) -> Result<Vec<usize>, AllocError>

@@ -31,7 +31,7 @@ pub struct Shelf {
 #[derive(Drop)]
 pub struct Pass {
     pub(crate) fact: Fact,
-    /// The number of the fact's slot, which is reckoned once.
+    /// The number of the fact's slot, which is computed once.
     slot: usize,
     pub(crate) block: Note<Block>,
     pub(crate) entry: Option<Note<Entry>>,
@@ -191,7 +191,7 @@ impl Shelf {
             }
         }
         let answer = evaluator.eval(fact);
-        // Want of memory for a block or a slot leaves it empty: the computed answer is given all
+        // Where there is no memory for a block or a slot it stays empty: the computed answer is given all
         // the same.
         let _ = self.fill(alloc, &mut pass, answer);
         answer

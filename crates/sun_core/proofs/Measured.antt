@@ -1,6 +1,6 @@
 -- How wide the sun's longitude, the estimates from it, the obliquity, the equation of time and noon are at the scale
--- 2^-56. The bound of each expression is computed once (`.._reach`), with the sum of the waves as a free argument whose
--- own width is given; `measured` and `sloped` lead from there to the enclosure.
+-- 2^-56. The bound of each expression is computed once (`.._reach`), with the sum of the periodic terms as a free
+-- argument whose own width is given; `measured` and `sloped` lead from there to the enclosure.
 use Rattle.std.specs.Prelude.{◌≡◌, ℕ, ◌+◌, ◌-◌, ◌*◌, ◌/◌, ◌^◌, ◌≤◌, true, ℤ, pos, neg_ℤ, ◌+ℤ◌, ◌*ℤ◌, nat_lt, unsigned_abs, max, refl, if◌then◌else◌, ◌==◌}
 use Rattle.std.proofs.Common.{arith}
 use Rattle.std.proofs.lemmas.Int.{ints}
@@ -64,7 +64,7 @@ module _ {E : Type 0} (shown : E → Interval) (n v : ℕ) (e : n ≡ 56) (b : v
       → IsAbout (2 ^ 90) (2 * v + 2 ^ 32) (shown y)
   turned_within y h = looser _ _ _ _ _ _ (shown y) (omega (arith, ints)) (omega (arith, ints)) (omega arith) h
 
--- the waves, and what they come to in degrees
+-- the sum of the periodic terms, and its value in degrees
 abbrev waves_bound : ℕ → Bound
 waves_bound k =
     bounded (neg_ℤ (pos (SUN_SIZES * 2 ^ 32))) (pos (SUN_SIZES * 2 ^ 32)) (SUN_SLOPE * 2 ^ 8)

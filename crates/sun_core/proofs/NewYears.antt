@@ -67,7 +67,7 @@ pub french_year_few : (d : ℤ) → AtMost 99999 (french_year_of d)
 french_year_few d = season_day_few 1 paris_midnight_of AUTUMN paris_midnight_few (omega arith) d
 
 -- ---- where a search begins
--- the moment of a day from which a passage is estimated lies in the years of which there is a correction, and so the estimate
+-- the moment of a day from which a passage is estimated lies in the years of which ΔT is known, and so the estimate
 -- doesn't lie far off
 pub record IsEstimate (q : ℤ) : Type 0 where
   pub from : (TABLE_START -ℤ pos 579) ≤ℤ q

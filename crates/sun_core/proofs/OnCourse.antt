@@ -1,4 +1,4 @@
--- A number within a stretch; what calls that answer say of their programs.
+-- A number within an interval; what calls that answer say of their programs.
 use Rattle.std.specs.Prelude.{◌≡◌, ℕ, ◌≤◌, Result, Ok, Err, IfOk, length, slice_range, ◌++◌, refl}
 use Rattle.book_model.specs.Interval.{Interval, everything, ◌⊆◌}
 use Rattle.book_model.proofs.Intervals.{within_trans, within_everything}
@@ -15,7 +15,7 @@ use Rattle.sun_core.specs.Courses.{greatest_waves_of, other_waves_of}
 use Rattle.sun_core.specs.Daily.{in_centuries}
 use Rattle.sun_core.specs.declared.courses.TheConstants.{GREATEST_WAVES}
 
--- what holds a number holds it in a wider stretch
+-- what holds a number holds it in a wider interval
 pub stretched : {E : Type 0} {shown : E → Interval} {w : World} {x : Expression} {a b : E} → shown a ⊆ shown b → Within shown w x a → Within shown w x b
 unfolding Lies
 stretched k h = record { deep = h.deep; inside = within_trans h.inside k }
@@ -35,7 +35,7 @@ pub answer_follows : {E : Type 0} (shown : E → Interval) (p : Expression → P
 answer_follows shown p a m n (Ok e) h = h
 answer_follows shown p a m n (Err z) h = tt
 
--- the greatest waves and the others are all
+-- the greatest periodic terms and the others are all
 waves_parted : slice_range SUN_WAVES 0 GREATEST_WAVES ++ slice_range SUN_WAVES GREATEST_WAVES (length SUN_WAVES) ≡ SUN_WAVES
 waves_parted = refl
 

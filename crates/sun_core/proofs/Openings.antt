@@ -1,5 +1,5 @@
--- A wrap of the sun's longitude that is open, by the equinox or by the stars, is no test of the year; nor is one of an angle, and a
--- failure after three tests isn't among the first.
+-- A wrap of the sun's longitude that is undecided, by the equinox or by the stars, is no test of the year; nor is one of an angle,
+-- and a failure after three tests isn't among the first.
 use Rattle.std.specs.Prelude.{ℕ, ◌≤◌, Result, Ok, Err, IfErr}
 use Rattle.std.proofs.Common.{arith}
 use Rattle.book_model.specs.Interval.{Interval}
@@ -30,7 +30,7 @@ step_wrap_elsewhere m i j (Err (Void s)) h = absurd h
 
 pub ruleset opening = (wrap_elsewhere, stars_elsewhere, step_wrap_elsewhere)
 
--- a failure at an open year is one of the first or not
+-- a failure at an undecided year is one of the first or not
 pub open_is_early : (i : Interval) (f : Fail) → IsYearOpenFor i f → IsEarlyYearFor i f
 open_is_early i (undecided_at u) h = λ s t. h s
 open_is_early i (Void s) h = tt

@@ -41,7 +41,7 @@ forward_within shown n v t p x e i h k f =
     (sloped shown (limits_of n) v (2 * v + 2 ^ 32) moment_bounds 1 (pos 0) (pos (360 * 2 ^ 32)) (2 * 2 ^ 40) (2 ^ 32) p refl (omega arith) k)
     (sloped shown (limits_of n) v v moment_bounds 0 (table_from 0) (table_to 0) (2 ^ 40) 0 t refl (omega arith) (drawn _ _ _ _ v (shown t) i h)))
 
--- ---- the ends about it
+-- ---- the bounds about it
 abbrev end_bounds : ℕ → Bound
 end_bounds k = if k == 0 then bounded (neg_ℤ (pos (2 ^ 58))) (pos (2 ^ 58)) (2 ^ 40) 0 else bounded (neg_ℤ (pos (2 ^ 52))) (pos (2 ^ 52)) (2 ^ 40) 0
 

@@ -56,7 +56,7 @@ scaled_holds : {E : Type 0} (shown : E → Interval) (w : World) (x : Expression
 unfolding Lies value
 scaled_holds shown w x a b f e s h = record { deep = h.deep; inside = within_trans (twice_within (value w x) a b f (value_proper w x) s) h.inside }
 
--- the two factors of the unit of the sun's waves
+-- the two factors of the unit of the sun's periodic terms
 unit_is : times (fraction_of SUN_UNIT_COARSELY) (fraction_of SUN_UNIT_FINELY) ≈ sun_unit
 unfolding times
 unit_is = record { cross = refl }
@@ -73,7 +73,7 @@ once_member i a b f x e m =
     (times_cong (same_refl x) e) in
     same_member (product i (exactly f)) (times x f) (times (times x a) b) (same_sym same) (product_holds i (exactly f) x f m (le_refl f, le_refl f))
 
--- the ends of a product, times a number, in an interval of ends
+-- the endpoints of a product, times a number, in an interval of endpoints
 ends_within : (p q b : Fraction) (j : Interval) → IsMember (times p b) j → IsMember (times q b) j → product (between p q) (exactly b) ⊆ j
 unfolding product
 ends_within p q b everything hp hq = within_everything _

@@ -1,6 +1,6 @@
--- The table of the sun's waves as they are summed, and the definition's sum: that the tables match, and what the sizes
--- and rates come to, is computed; a wave by days lies in the wave by centuries of the definition, since a rate a
--- century times a day in centuries is the rate a day.
+-- The table of the sun's periodic terms as they are summed, and the definition's sum: that the tables match, and the
+-- sums of sizes and rates, is computed; a periodic term by days lies in the periodic term by centuries of the
+-- definition, since a rate a century times a day in centuries is the rate a day.
 use Rattle.std.proofs.Common.{◌≡◌, ℕ, zero, suc, ◌≤◌, refl, arith, List, length, slice_index_or, slice_range}
 use Rattle.std.proofs.lemmas.Int.{ints}
 use Rattle.book_model.specs.Fraction.{whole}
@@ -83,7 +83,7 @@ other_reach = record {
       rw other_sizes_are (omega (arith, ints));
 }
 
--- ---- the definition's waves, in centuries
+-- ---- the definition's periodic terms, in centuries
 wave_within : (w : World) (x : Expression) (v : Wave) → 40 ≤ w.depth → value w (wave_of (in_centuries x) v)
     ⊆ value w (turning_wave_of x v)
 unfolding value wave_of turning_wave_of in_centuries Lies

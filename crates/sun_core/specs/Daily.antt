@@ -1,4 +1,4 @@
--- The sun's waves and mean longitude by days: as the definitions have them, in centuries, and as they are computed.
+-- The sun's periodic terms and mean longitude by days: as the definitions have them, in centuries, and as they are computed.
 use Rattle.std.specs.Prelude.{Bool, ◌-◌, ◌*◌, ◌&&◌, nat_lt, nat_le, cond}
 use Rattle.book_model.specs.Fraction.{whole}
 use Rattle.book_model.specs.declared.frac.Frac.{Frac}
@@ -24,10 +24,10 @@ by_centuries f x = scale (fraction_of f) (in_centuries x)
 unfoldable pub by_days : Frac → Expression → Expression
 by_days f x = cond (has_daily f) (scale (record { num = f.num; below = f.den * 36525 - 1 }) x) (by_centuries f x)
 
--- the angle of a wave, as it is computed
+-- the angle of a periodic term, as it is computed
 abbrev pub daily_angle_of : Wave → Expression → Expression
 daily_angle_of v x = add (constant (ten_millionths v.phase)) (scale (daily_ten_millionths v.rate) x)
 
--- the size of a wave times the sine of its angle
+-- the size of a periodic term times the sine of its angle
 unfoldable pub daily_wave_of : Expression → Wave → Expression
 daily_wave_of x v = scale (whole v.size) (sine (daily_angle_of v x))

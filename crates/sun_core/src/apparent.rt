@@ -24,7 +24,7 @@ fn ahead<E: Enclosure>(longitude: Frac) -> E
 
 /// The local mean time of a moment of apparent time, which sundials show, at a longitude east of Greenwich in degrees
 /// (Reingold and Dershowitz, Calendrical Calculations, chapter 14): the moment less the equation of time at it. One
-/// test, at `year`; it is void at `year` in a year without a correction.
+/// test, at `year`; it is void at `year` in a year without ΔT.
 #[tactic(auto, using(book_model::proofs::Leads::leading), unfolding(book_model::specs::sky::Noon::from_apparent_of))]
 pub fn from_apparent<E: Enclosure>(longitude: Frac, t: E, trail: &mut Trail) -> Result<E, Fail>
     ensures leads { Follows1 E.shown (from_apparent_of (fraction_of longitude)) t trail.old.count
@@ -45,7 +45,7 @@ fn apparent_noon<E: Enclosure>(day: i64) -> E
 }
 
 /// The moment of true noon on a day at Tehran, in universal time (Reingold and Dershowitz, Calendrical Calculations,
-/// chapter 15). One test, at `year`; it is void at `year` in a year without a correction.
+/// chapter 15). One test, at `year`; it is void at `year` in a year without ΔT.
 #[tactic(auto, using(book_model::proofs::Leads::leading), unfolding(book_model::specs::sky::Noon::noon_of, crate::specs::Steps::apparent_noon_of))]
 pub fn noon<E: Enclosure>(d: i64, trail: &mut Trail) -> Result<E, Fail>
     requires day { IsFactDay d }
@@ -66,7 +66,7 @@ fn apparent_midnight<E: Enclosure>(day: i64) -> E
 }
 
 /// Midnight at the end of a day by apparent time at Paris, in universal time (Reingold and Dershowitz, Calendrical Calculations,
-/// chapter 17). One test, at `year`; it is void at `year` in a year without a correction.
+/// chapter 17). One test, at `year`; it is void at `year` in a year without ΔT.
 #[tactic(auto, using(book_model::proofs::Leads::leading), unfolding(book_model::specs::sky::Noon::paris_midnight_of, crate::specs::Steps::apparent_midnight_of))]
 pub fn paris_midnight<E: Enclosure>(d: i64, trail: &mut Trail) -> Result<E, Fail>
     requires day { IsFactDay d }

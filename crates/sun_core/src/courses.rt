@@ -1,9 +1,9 @@
-//! The course of the sun over a stretch of days: what it is ahead of its mean longitude by all but the greatest of its waves, as wide
-//! as that may be at one of them. The longitude at a moment of the stretch takes the greatest waves of the moment, and the others of
-//! the course.
+//! A linear model of the sun over an interval of days: the sum of all but the greatest of its periodic terms, taken once, as wide as
+//! it may be on one of these days. The longitude at a moment of the interval takes its mean longitude and the greatest periodic terms
+//! at the moment, and the sum of the others from the model.
 //!
-//! That it holds at each moment needs no law of its own: an enclosure that is computed of a stretch holds the value at every moment
-//! that the stretch holds.
+//! That it holds at each moment needs no law of its own: an enclosure that is computed of an interval holds the value at every moment
+//! that the interval holds.
 ghost use Rattle.std.specs.Prelude.{◌≡◌, Ok, IfOk, IsTrue};
 ghost use Rattle.book_model.specs.Interval.{everything, ◌⊆◌};
 ghost use Rattle.book_model.specs.numbers.Ranges.{IsInTable};
@@ -22,12 +22,12 @@ use std::marker::Model;
 use time_scales::dynamical;
 
 // A major term takes 171,000 instructions so, and 210,000, 206,000 and 263,000 with the others.
-/// How many waves, the first of the table, are the greatest. Tried with two, four, eight and sixteen: with four a bisection for a
-/// solar term evaluates the fewest waves in all.
+/// How many periodic terms, the first of the table, are the greatest. Tried with two, four, eight and sixteen: with four a
+/// bisection for a solar term evaluates the fewest periodic terms in all.
 pub(crate) const GREATEST_WAVES: usize = 4;
 
-/// The days of dynamical time, counted from noon of 1 January 2000, of a stretch of universal time; none where it isn't decided of
-/// the stretch in which year it lies, as where it leaves a year. The tests are no part of a run.
+/// The days of dynamical time, counted from noon of 1 January 2000, of an interval of universal time; none where the year of the
+/// interval isn't decided, as where it leaves a year. The tests are no part of a run.
 pub fn days_over<E: Enclosure>(stretch: E, trail: &Trail) -> Option<E> {
     let mut own = trail.anew();
     match dynamical(stretch, &mut own) {
@@ -36,9 +36,9 @@ pub fn days_over<E: Enclosure>(stretch: E, trail: &Trail) -> Option<E> {
     }
 }
 
-// Its type says of which days it holds, and it is taken of these alone (`covers`): no stretch has
+// Its type says of which days it holds, and it is taken of these alone (`covers`): no interval has
 // to be the right one.
-/// The course of the sun over a stretch of days, counted from noon of 1 January 2000 in dynamical time. Contracts see the days.
+/// The linear model of the sun over an interval of days, counted from noon of 1 January 2000 in dynamical time. Contracts see the days.
 #[derive(Drop)]
 pub struct SunCourse<E: Enclosure> {
     days: E,
@@ -58,7 +58,7 @@ impl<E: Enclosure> Model for SunCourse<E> {
 }
 
 impl<E: Enclosure> SunCourse<E> {
-    /// The course over days counted from noon of 1 January 2000 in dynamical time.
+    /// The linear model over days counted from noon of 1 January 2000 in dynamical time.
     pub fn of(days: E) -> Self
         ensures days { result ≡ days }
     {
@@ -72,28 +72,29 @@ impl<E: Enclosure> SunCourse<E> {
 
     // For tests that need few digits: whether a day is past an equinox, in which sign the sun
     // stands.
-    /// The course over all days.
+    /// The linear model over all days.
     pub fn always() -> Self
         ensures all { E.shown result ≡ everything }
     {
         SunCourse::<E>::of(E::whole())
     }
 
-    /// The nutation in longitude over the days of the course, in degrees.
+    /// The nutation in longitude over the days of the linear model, in degrees.
     pub fn nutation(&self) -> E
         ensures holds { Holds1 E.shown (λ x. nutation_of (in_centuries x)) self.now result }
     {
         self.nutation
     }
 
-    /// Whether days lie within those of the course.
+    /// Whether days lie within those of the linear model.
     fn covers(&self, days: E) -> bool
         ensures there { IsTrue result → E.shown days ⊆ E.shown self.now }
     {
         lies_within(days, self.days)
     }
 
-    /// What the sun is ahead of its mean longitude by days of the course: the greatest waves of these days, and the others of the course.
+    /// What the sun is ahead of its mean longitude by days of the linear model: the greatest periodic terms at these days, and the
+    /// others from the linear model.
     fn periodic(&self, days: E) -> E
         requires there { E.shown days ⊆ E.shown self.now }
         ensures holds { Holds1 E.shown (λ x. periodic_of (in_centuries x)) days result }
@@ -104,7 +105,7 @@ impl<E: Enclosure> SunCourse<E> {
             .mul_frac(SUN_UNIT_FINELY)
     }
 
-    /// The longitude of the sun by days of the course, not reduced.
+    /// The longitude of the sun by days of the linear model, not reduced.
     fn longitude(&self, days: E) -> E
         requires there { E.shown days ⊆ E.shown self.now }
         ensures holds { Holds1 E.shown (λ x. longitude_of (in_centuries x)) days result }
@@ -116,9 +117,9 @@ impl<E: Enclosure> SunCourse<E> {
     }
 }
 
-/// The apparent longitude of the sun at a moment of universal time by a course, in degrees from 0 up to 360, as wide as it may be
-/// over the stretch of the course. Where it answers it has made the tests of `sun`. A failure says nothing of `sun`: it is void at
-/// `sun-wrap` where the moment isn't one of the course.
+/// The apparent longitude of the sun at a moment of universal time by a linear model, in degrees from 0 up to 360, as wide as it
+/// may be over the interval of the linear model. Where it answers it has made the tests of `sun`. A failure says nothing of `sun`:
+/// it is void at `sun-wrap` where the moment isn't one of the linear model.
 pub fn sun_by<E: Enclosure>(course: &SunCourse<E>, t: E, trail: &mut Trail) -> Result<E, Fail>
     ensures leads { IfOk result (λ s. Follows1 E.shown sun_of t trail.old.count trail.new.count
         (Ok s)) }

@@ -85,7 +85,7 @@ fn equation<E: Enclosure>(c: E) -> E
 
 /// The equation of time at a moment of universal time, in days: what apparent time is ahead of mean time (Reingold and
 /// Dershowitz, Calendrical Calculations, chapter 14). It is at most half a day. One test, at `year`; it is void at
-/// `year` in a year without a correction.
+/// `year` in a year without ΔT.
 #[tactic(auto, using(book_model::proofs::Leads::leading, crate::proofs::Measured::equation_within), unfolding(book_model::specs::sky::Noon::equation_of_time_of))]
 pub fn equation_of_time<E: Enclosure>(t: E, trail: &mut Trail) -> Result<E, Fail>
     ensures leads { Follows1 E.shown equation_of_time_of t trail.old.count trail.new.count result }

@@ -67,7 +67,7 @@ fn moved_back<E: Enclosure>(angle: E, t: E) -> E
 /// Dershowitz, Calendrical Calculations, chapter 14): from the moment it goes back by the mean sun's time from that
 /// longitude, and from there once more by what the sun is still off. Six tests: the sun's two at the moment, one at
 /// `step-wrap`, the sun's two at the moment found first, and one at `step-wrap`. It is void at `year` in a year
-/// without a correction.
+/// without ΔT.
 #[tactic(auto, using(book_model::proofs::Leads::leading), unfolding(book_model::specs::sky::Sun::estimate_of))]
 pub fn estimate<E: Enclosure>(l: E, t: E, trail: &mut Trail) -> Result<E, Fail>
     ensures leads { Follows2 E.shown estimate_of l t trail.old.count trail.new.count result }

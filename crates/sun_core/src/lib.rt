@@ -1,19 +1,20 @@
 //! The sun: its apparent longitude, the obliquity of the ecliptic, the equation of time and true noon, and about when
-//! the sun was last at a longitude. Angles are in degrees, moments and spans in days (moments R.D., with a fraction), all
+//! the sun was last at a longitude. Angles are in degrees, moments and durations in days (moments R.D., with a fraction), all
 //! as enclosures. Each formula makes the tests of its definition in the same order, and its answer holds
 //! what the definition gives, at every depth from `DEPTH` on.
 //!
 //! - `sun`: the longitude at a moment, with nutation and aberration;
-//! - `SunCourse`: what is known of the longitude over a stretch of time; `sun_by`: the longitude at a moment of it, as wide as it may
-//!   be there; `days_over`: the days of a stretch;
+//! - `SunCourse`: a linear model of the longitude over an interval of time; `sun_by`: the longitude at a moment of it, as wide as it
+//!   may be there; `days_over`: the days of an interval;
 //! - `obliquity`: of the ecliptic, by the centuries; `nutation`, `sine_wave`, `wave_angle` and `times_rate`, of which longitudes are made;
 //! - `equation_of_time`: what apparent time, which sundials show, is ahead of mean time;
 //! - `from_apparent`: from apparent to local mean time;
 //! - `noon`: true noon at Tehran, which decides the first day of a Persian year; `paris_midnight`: midnight by apparent time at Paris,
 //!   which decides that of a French year;
-//! - `estimate`: about when the sun was last at a longitude; `sun_from`: when it is next at one; `sun_from_by`: the same by a course;
+//! - `estimate`: about when the sun was last at a longitude; `sun_from`: when it is next at one; `sun_from_by`: the same by a linear
+//!   model;
 //! - `precession`: how far the equinox has moved among the stars; `sidereal_sun`: the longitude of the sun among them;
-//! - sines, arcs and the bisection of `trig_series`, `arc_series` and `angle_search`, given on to the formulas above.
+//! - sines, arcs and the bisection of `trig_series`, `arc_series` and `angle_search`, re-exported to the formulas above.
 #![tactic(auto)]
 
 mod apparent;

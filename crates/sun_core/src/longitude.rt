@@ -30,7 +30,7 @@ use time_scales::dynamical;
 pub fn nutation<E: Enclosure>(c: E) -> E
     ensures encloses { Encloses1 E.shown E.BITS nutation_of c result }
 {
-    // Written out, so that the denominators are known to the compiler: it drops the hint from a function that would grow so large.
+    // Written out, so that the denominators are known to the compiler: it ignores `#[inline]` on a function that would grow so large.
     let square = c.square();
     let node = E::from_frac(NODE_NUTATION.angle.constant)
         .add(c.mul_frac(NODE_NUTATION.angle.linear))
@@ -52,7 +52,7 @@ pub(crate) fn aberration<E: Enclosure>(days: E) -> E
     cosine_wave(&ABERRATION, days).sub(E::from_frac(MEAN_ABERRATION))
 }
 
-/// What the sun is ahead of its mean longitude: the sum of its waves times their unit, which is applied in two steps.
+/// What the sun is ahead of its mean longitude: the sum of its periodic terms times their unit, which is applied in two steps.
 fn periodic<E: Enclosure>(days: E) -> E
     ensures holds { Holds1 E.shown (λ x. periodic_of (in_centuries x)) days result }
     ensures measured { (v : ℕ) → E.BITS ≡ 56 → v ≤ 2 ^ 70 → IsAbout (2 ^ 52) v (E.shown days)
@@ -90,7 +90,7 @@ fn longitude<E: Enclosure>(days: E, c: E) -> E
 
 /// The apparent longitude of the sun at a moment of universal time, in degrees from 0 up to 360 (Reingold and
 /// Dershowitz, Calendrical Calculations, chapter 14). Two tests, the year's and the one at `sun-wrap`. It is void at
-/// `year` in a year without a correction.
+/// `year` in a year without ΔT.
 #[tactic(auto, using(book_model::proofs::Leads::leading, crate::proofs::Openings::opening), unfolding(book_model::specs::sky::Sun::sun_of, book_model::specs::sky::Time::centuries_of, book_model::specs::sky::Time::in_centuries, crate::specs::Daily::in_centuries))]
 pub fn sun<E: Enclosure>(t: E, trail: &mut Trail) -> Result<E, Fail>
     ensures leads { Follows1 E.shown sun_of t trail.old.count trail.new.count result }

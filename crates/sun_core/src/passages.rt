@@ -92,9 +92,9 @@ fn passage_about<E: Enclosure>(
     )
 }
 
-// Calls with the ending `_by` take a course, of which the evaluator has one for all facts; the call
+// Calls with the ending `_by` take a linear model, of which the evaluator has one for all facts; the call
 // without it makes the one over all days first.
-/// `sun_from`, where the course of the sun is known, over all days or over those about the moment.
+/// `sun_from`, where the linear model of the sun is known, over all days or over those about the moment.
 #[tactic(auto, using(book_model::proofs::Leads::leading), unfolding(book_model::specs::sky::Sun::sun_from_of))]
 pub fn sun_from_by<E: Enclosure>(
     course: &SunCourse<E>,
@@ -114,7 +114,7 @@ pub fn sun_from_by<E: Enclosure>(
 /// When the sun is next at a longitude, in degrees, at or after a moment of universal time: by bisection about the moment to which
 /// the mean sun leads (Reingold and Dershowitz, Calendrical Calculations, chapter 14). 324 tests at most (`fact_eval`'s
 /// `from_few`): the sun's two at the moment, one at `step-wrap`, and those of the bisection. It is void at `year` in a year without
-/// a correction.
+/// ΔT.
 pub fn sun_from<E: Enclosure>(l: E, t: E, trail: &mut Trail) -> Result<E, Fail>
     ensures leads { Follows2 E.shown spec.sun_from_of l t trail.old.count trail.new.count result }
     ensures measured { Measured2 E.BITS E.shown (2 ^ 34) (λ v. IsMoment 0) IsMoment

@@ -49,7 +49,7 @@ fn precession_at<E: Enclosure>(c: E) -> E
 }
 
 /// How far the equinox has moved among the stars at a moment of universal time, in degrees, not reduced (Reingold and Dershowitz,
-/// Calendrical Calculations, chapter 14): one test, the year's. It is void at `year` in a year without a correction. From
+/// Calendrical Calculations, chapter 14): one test, the year's. It is void at `year` in a year without ΔT. From
 /// R.D. 600,000 on, of the year 1643, it is at most a thousandth as wide as the moment, and 2⁻³¹ degrees.
 #[tactic(auto, using(book_model::proofs::Leads::leading), unfolding(book_model::specs::sky::Sidereal::precession_of))]
 pub fn precession<E: Enclosure>(t: E, trail: &mut Trail) -> Result<E, Fail>
@@ -83,7 +83,7 @@ fn wrapped_sidereal<E: Enclosure>(angle: E, trail: &mut Trail) -> Result<E, Fail
 
 /// The longitude of the sun among the stars at a moment of universal time, in degrees from 0 up to 360, from where the signs of the
 /// Hindu zodiac begin (Reingold and Dershowitz, Calendrical Calculations, chapters 14 and 20): four tests, the sun's two, the
-/// year's, and one at `sidereal`. It is void at `year` in a year without a correction.
+/// year's, and one at `sidereal`. It is void at `year` in a year without ΔT.
 #[tactic(auto, using(book_model::proofs::Leads::leading), unfolding(book_model::specs::sky::Sidereal::sidereal_sun_of))]
 pub fn sidereal_sun<E: Enclosure>(t: E, trail: &mut Trail) -> Result<E, Fail>
     ensures leads { Follows1 E.shown spec.sidereal_sun_of t trail.old.count trail.new.count result }
@@ -96,8 +96,8 @@ pub fn sidereal_sun<E: Enclosure>(t: E, trail: &mut Trail) -> Result<E, Fail>
     wrapped_sidereal(sidereal_by(longitude, moved), trail)
 }
 
-/// `sidereal_sun` by a course of the sun, as wide as it may be over its stretch. Where it answers it has made the tests of
-/// `sidereal_sun`. A failure says nothing of `sidereal_sun`: it is void where the moment isn't one of the course.
+/// `sidereal_sun` by a linear model of the sun, as wide as it may be over its interval. Where it answers it has made the tests of
+/// `sidereal_sun`. A failure says nothing of `sidereal_sun`: it is void where the moment isn't one of the linear model.
 pub fn sidereal_sun_by<E: Enclosure>(
     course: &SunCourse<E>,
     t: E,

@@ -1,4 +1,4 @@
-//! The sum of the sun's waves, by turns and days.
+//! The sum of the sun's periodic terms, by turns and days.
 ghost use Rattle.std.specs.Prelude.{◌≡◌, ◌≤◌, ◌^◌, ◌*◌, ℕ};
 ghost use Rattle.book_model.specs.declared.sun_tables.TheConstants.{SUN_WAVES};
 ghost use Rattle.book_model.specs.numbers.Polynomials.{waves_of};
@@ -12,7 +12,7 @@ use crate::courses::GREATEST_WAVES;
 use encl_core::Enclosure;
 use periodic_terms::{TurningWave, sum_of_waves};
 
-/// The sun's 49 waves as they are summed: those of `SUN_WAVES`, in the same order, by turns and days.
+/// The sun's 49 periodic terms as they are summed: those of `SUN_WAVES`, in the same order, by turns and days.
 #[rattlefmt::skip]
 pub const SUN_TURNS: [TurningWave; 49] = [
     TurningWave { size: 403_406, phase: 13_863_169_356_021_824_259, rate: 85_393_356_518_306_771 },
@@ -72,7 +72,7 @@ const SUN_SLOPE: u64 = 33_364_602_334_325;
 /// The sum of their sizes.
 const SUN_SIZES: u64 = 842_879;
 
-/// The slope of the greatest waves alone.
+/// The slope of the greatest periodic terms alone.
 const GREATEST_SLOPE: u64 = 31_714_473_147_842;
 
 /// The sum of their sizes.
@@ -84,7 +84,7 @@ const OTHER_SLOPE: u64 = 1_650_129_186_484;
 /// The sum of their sizes.
 const OTHER_SIZES: u64 = 12_441;
 
-/// The sum of the waves by the days from noon of 1 January 2000.
+/// The sum of the periodic terms by the days from noon of 1 January 2000.
 pub(crate) fn sun_waves<E: Enclosure>(days: E) -> E
     ensures holds { Holds1 E.shown (λ x. waves_of SUN_WAVES (in_centuries x)) days result }
     ensures measured { (v : ℕ) → E.BITS ≡ 56 → v ≤ 2 ^ 70 → IsAbout (2 ^ 52) v (E.shown days)

@@ -1,4 +1,4 @@
--- Corrections of three days, which the tests take as right answers: they are polynomials of a year, without
+-- Values of ΔT of three days, which the tests take as right answers: they are polynomials of a year, without
 -- series, so they are the same at every depth.
 use Rattle.std.proofs.Common.{◌≡◌, true, ℕ, ℤ, pos, refl, ◌<ℤ◌, arith}
 use Rattle.std.proofs.lemmas.Int.{ints}
@@ -19,7 +19,7 @@ use Rattle.book_model.proofs.Corrections.{below_no}
 use Rattle.oracle_core.specs.Answers.{IsRightAnswer}
 use Rattle.oracle_core.specs.declared.evaluator.Answer.TheVariants.{Value, Void}
 
--- the correction of a day, in milliseconds, at every depth
+-- ΔT of a day, in milliseconds, at every depth
 abbrev ComesTo : ℤ → ℤ → Type 0
 ComesTo day v = (n : ℕ) → outcome (run (at_depth n) (dt_of day)) ≡ valued v
 
@@ -29,7 +29,7 @@ unfolding
     correction_of_year corrections row_of_year year_of_day first_day sum product least greatest plus times smaller larger is_at_most
 runs = (λ n. refl, λ n. refl, λ n. refl)
 
--- a fact is true with a correction that its day comes to
+-- a fact is true with the ΔT of its day
 by_run : (f : Fact) (day v : ℤ) → f.kind ≡ Dt → f.day ≡ day → is_between FIRST_DAY LAST_DAY day ≡ true → ComesTo day v → IsTrueWith f v
 unfolding program_of run_of formula_of
 by_run f day v kind same within known = record { at_each_depth = λ n deep. rw (kind, same, within) (known n) }

@@ -1,4 +1,4 @@
-//! Tests by value of the crates that read and write texts: streams, printed files, verdicts, words, shelves, pieces of work,
+//! Tests by value of the crates that read and write texts: streams, certificates, verdicts, words, shelves, chunks of work,
 //! runs. They stand here, above all of these crates, so that each of those is proved once; there is no code.
 #![tactic(auto)]
 

@@ -21,12 +21,12 @@ member_same : (i : Interval) (a b : Fraction) → a ≈ b → IsMember a i → I
 member_same everything a b e m = tt
 member_same (between c d) a b e m = (le_trans c a b m.0 (le_of_same e), le_trans b a d (ge_of_same e) m.1)
 
--- n degrees that count 2^-56, as a part of 180
+-- n degrees in units of 2^-56, as a part of 180
 abbrev of_half_turn : ℤ → Fraction
 of_half_turn n = record { num = n; below = 180 * 2 ^ 56 - 1 }
 
 -- ---- products of three, where two are fractions
--- a fraction times an interval lies in what holds its products with the two ends
+-- a fraction times an interval lies in what holds its products with the two endpoints
 ends_product : (r lo hi : Fraction) (j : Interval) → IsMember (times r lo) j → IsMember (times r hi) j → product (only r) (between lo hi) ⊆ j
 unfolding product
 ends_product r lo hi everything m n = within_everything _
@@ -46,7 +46,7 @@ parted_member r c s p i e m =
     member_same (product (only r) (product i (only c))) (times r (times p c)) (times s p) (same_sym (regrouped r c s p e))
     (product_holds (only r) (product i (only c)) r (times p c) (le_refl r, le_refl r) (product_holds i (only c) p c m (le_refl c, le_refl c)))
 
--- what holds for both ends' products with c holds for the ends of the product
+-- what holds for both endpoints' products with c holds for the endpoints of the product
 ends_keep : (P : Fraction → Type 0) (a b c : Fraction) → P (times a c) → P (times b c)
     → P (least (times a c) (times a c) (times b c) (times b c)) × P (greatest (times a c) (times a c) (times b c) (times b c))
 unfolding least greatest

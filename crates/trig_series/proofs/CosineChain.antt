@@ -1,4 +1,4 @@
--- The cosine's ends at an angle, as a chain of steps.
+-- The cosine's endpoints at an angle, as a chain of steps.
 use Rattle.std.proofs.Common.{◌≡◌, ℕ, zero, suc, ◌+◌, ◌-◌, ◌≤◌, refl, arith, pos, negsuc, [], ◌∷◌}
 use Rattle.book_model.specs.Fraction.{Fraction, ◌≤F◌, ◌≈◌, whole, opposite, times}
 use Rattle.book_model.specs.Sums.{lower, upper, inner}

@@ -1,4 +1,4 @@
--- The sine over an octant that two ends meet, and over all of these.
+-- The sine over an octant that two endpoints meet, and over all of these.
 use Rattle.std.proofs.Common.{◌≡◌, ℕ, zero, suc, ◌≤◌, ◌/◌, ◌∙◌, refl, arith, neg_ℤ, ℤ, pos, ◌+ℤ◌, ◌-ℤ◌, ◌*ℤ◌, ◌≤ℤ◌, ◌<ℤ◌}
 use Rattle.std.specs.Int.{int_div_euclid, int_max, int_min}
 use Rattle.std.proofs.lemmas.Int.{ints, clamps, by_lt_z}
@@ -15,7 +15,7 @@ use Rattle.book_model.proofs.DegreeSines.{over_least}
 use Rattle.encl_core.specs.parts.TheConstants.{OCTANT}
 use Rattle.encl_core.proofs.Quotients.{euclid_is}
 
--- ---- the part of two ends in an octant
+-- ---- the part of two endpoints in an octant
 pub order_at : (p q : ℤ) → p ≤ℤ q → units_of_56 p ≤F units_of_56 q
 order_at p q h = record { cross = omega (arith, ints) }
 
@@ -55,7 +55,7 @@ next_edge_at : (k : ℤ) → octant_edge (k +ℤ pos 1) ≈ units_of_56 (k *ℤ 
 unfolding times
 next_edge_at k = record { cross = omega (arith, ints) }
 
--- ---- the hull of the sines at its two ends
+-- ---- the hull of the sines at its two endpoints
 hull_span : (a b c d lo hi : ℤ) → lo ≤ℤ a → lo ≤ℤ c → b ≤ℤ hi → d ≤ℤ hi
     → interval_hull (between (units_of_56 a) (units_of_56 b)) (between (units_of_56 c) (units_of_56 d)) ⊆ between (units_of_56 lo) (units_of_56 hi)
 unfolding interval_hull
@@ -92,7 +92,7 @@ in_holds n k lo hi p q a b c d x y e f low high g h =
     (low _ (larger_at (octant_edge k) (k *ℤ pos OCTANT) lo p (edge_at k) e))
     (high _ (smaller_at (octant_edge (k +ℤ pos 1)) (k *ℤ pos OCTANT +ℤ pos OCTANT) hi q (next_edge_at k) f))
 
--- ---- the octants that two ends meet
+-- ---- the octants that two endpoints meet
 pub division_is : (d q : ℤ) → q ≡ int_div_euclid d (pos OCTANT) → IsFloorQuotient q d 3242591731706757119
 division_is d q e = let f = e ∙ euclid_is d OCTANT (omega arith) in rw f (floor_quotient_is d 3242591731706757119)
 
@@ -122,14 +122,14 @@ last_bounds hi =
     let f = division_is hi q refl in
     rw (← last_is hi q refl) (omega (arith, ints, f.not_above), omega (arith, ints, f.close))
 
--- the only octant that ends meet which lie inside of it
+-- the only octant that endpoints meet which lie inside of it
 pub first_alone_is : (k lo : ℤ) → (k *ℤ pos OCTANT) <ℤ lo → lo <ℤ (k *ℤ pos OCTANT +ℤ pos OCTANT) → k ≡ first_octant (units_of_56 lo)
 first_alone_is k lo l u = let b = first_bounds lo in omega (arith, ints, l, u, b.0, b.1)
 
 pub last_alone_is : (k hi : ℤ) → (k *ℤ pos OCTANT) <ℤ hi → hi <ℤ (k *ℤ pos OCTANT +ℤ pos OCTANT) → k ≡ last_octant (units_of_56 hi)
 last_alone_is k hi l u = let b = last_bounds hi in omega (arith, ints, l, u, b.0, b.1)
 
--- ends of which one lies on an octant's edge, or beyond, meet several
+-- endpoints of which one lies on an octant's edge, or beyond, meet several
 pub edge_below : (k lo hi : ℤ) → (k *ℤ pos OCTANT) ≤ℤ lo → lo ≤ℤ (k *ℤ pos OCTANT) → lo ≤ℤ hi → first_octant (units_of_56 lo) <ℤ last_octant (units_of_56 hi)
 edge_below k lo hi l u o = let b = first_bounds lo in let c = last_bounds hi in omega (arith, ints, l, u, o, b.0, b.1, c.0, c.1)
 

@@ -1,4 +1,4 @@
--- The series over a part of an octant, from their ends at its first angle.
+-- The series over a part of an octant, from their endpoints at its first angle.
 use Rattle.std.proofs.Common.{◌≡◌, ℕ, zero, suc, ◌-◌, ◌≤◌, refl, arith, neg_ℤ, unsigned_abs, ℤ, pos, negsuc, ◌+ℤ◌, ◌-ℤ◌, ◌*ℤ◌, ◌≤ℤ◌, ◌<ℤ◌, [], ◌∷◌}
 use Rattle.std.proofs.lemmas.Int.{ints, clamps, by_lt_z}
 use Rattle.book_model.specs.Fraction.{Fraction, ◌≤F◌, ◌≈◌, plus, times}
@@ -41,7 +41,7 @@ pub above_close : (d e : ℕ) (m : ℤ) → d ≤ e → (pos e -ℤ pos d) ≤�
 unfolding plus times
 above_close d e m o h = record { cross = omega (arith, ints, o, h) }
 
--- ---- ends that are moved
+-- ---- endpoints that are moved
 pub joined : (a b : ℤ) → units_of_56 (a +ℤ b) ≈ plus (units_of_56 a) (units_of_56 b)
 unfolding plus
 joined a b = record { cross = omega (arith, ints) }
@@ -183,7 +183,7 @@ later_part (pos (suc (suc (suc (suc j))))) f t a b lo hi h p q k =
 pub turned_part : (k o : ℤ) (f t : ℕ) (lo hi : ℤ) → o ≡ pos (octant_of_turn k) → IsPart (unsigned_abs o) f t lo hi → IsPart (octant_of_turn k) f t lo hi
 turned_part k o f t lo hi e h = rw e at h
 
--- both ends of a part have their sines in its span
+-- both endpoints of a part have their sines in its span
 pub within_holds : (n : ℕ) (k o lo hi a b : ℤ) → o ≡ pos (octant_of_turn k) → (k *ℤ pos OCTANT) ≤ℤ lo → lo ≤ℤ hi → hi ≤ℤ (k *ℤ pos OCTANT +ℤ pos OCTANT)
     → ((d : ℕ) (y : Fraction) → unsigned_abs (lo -ℤ k *ℤ pos OCTANT) ≤ d → d ≤ unsigned_abs (hi -ℤ k *ℤ pos OCTANT) → y ≈ units_of_56 (pos d)
     → sine_into n (unsigned_abs o) y ⊆ between (units_of_56 a) (units_of_56 b))

@@ -1,4 +1,4 @@
--- Spans at single angles of the first octant: they hold the series, and are near its ends.
+-- Spans at single angles of the first octant: they hold the series, and are near its endpoints.
 use Rattle.std.proofs.Common.{ℕ, zero, suc, ◌+◌, ◌*◌, ◌-◌, ◌^◌, ◌≤◌, refl, arith, ℤ, pos, negsuc, ◌+ℤ◌, ◌-ℤ◌, ◌*ℤ◌, ◌≤ℤ◌, [], ◌∷◌}
 use Rattle.std.proofs.lemmas.Int.{ints}
 use Rattle.book_model.specs.Fraction.{Fraction, ◌≤F◌, ◌≈◌, whole, times}
@@ -29,7 +29,7 @@ use Rattle.trig_series.proofs.KernelSteps.{step_near}
 use Rattle.trig_series.proofs.SineChain.{sine_near, low_is as sine_low, high_is as sine_high, nested, flipped, step_at, Keeps, Chain, innermost}
 use Rattle.trig_series.proofs.CosineChain.{Chain as CosineChain, innermost as cosine_innermost, cosine_near, low_is as cosine_low, high_is as cosine_high}
 
--- ---- the ends around a number
+-- ---- the endpoints around a number
 pub low_end : (s e lo : ℤ) → (lo *ℤ pos 256 +ℤ e) ≤ℤ s → units_of_56 lo ≤F at_64 (s -ℤ e)
 low_end s e lo h = record { cross = omega (arith, ints, h) }
 

@@ -1,4 +1,4 @@
--- The ends of the series at an angle, as chains of steps.
+-- The endpoints of the series at an angle, as chains of steps.
 use Rattle.std.proofs.Common.{◌≡◌, ℕ, zero, suc, ◌+◌, ◌-◌, ◌^◌, ◌≤◌, refl, arith, pos, negsuc, [], ◌∷◌}
 use Rattle.book_model.specs.Fraction.{Fraction, ◌≤F◌, ◌≈◌, whole, plus, opposite, times}
 use Rattle.book_model.specs.Sums.{lower, upper, inner}
@@ -55,7 +55,7 @@ inner_nested zero e u r = same_by (e ∷ u ∷ r 0 ∷ []) (lit (pos 1) ⊕ at 0
 inner_nested (suc n) e u r =
     plus_cong (same_refl (whole (pos 1))) (opposite_cong (times_cong (same_refl (times u (r 0))) (inner_nested n (opposite e) u (λ k. r (suc k)))))
 
--- the sine's ends at depth 8 are the angle times what the chain gives
+-- the sine's endpoints at depth 8 are the angle times what the chain gives
 pub sine_ends : (e x : Fraction)
     → times (sine_term x 0) (inner e (times x x) (λ k. falling (sine_index k)) 8) ≈ times x (nested (times x x) (λ k. falling (sine_index k)) (flipped e 8) 8)
 sine_ends e x = times_cong (sine_first x) (inner_nested 8 e (times x x) (λ k. falling (sine_index k)))
@@ -164,7 +164,7 @@ chained w i h g f e d c b a u s k z q n =
     let n0 = on 0 18446744073709551615 w b a u _ k.k0 z cut_0 q n1 in
     rw (← nested_is u s) (near_same 320 a _ _ (one_times _) n0)
 
--- ---- the ends of the sum, at depth 8 and deeper
+-- ---- the endpoints of the sum, at depth 8 and deeper
 pub low_is : (x : Fraction) → IsUpTo 4 5 x → times x (nested (times x x) ratio (flipped (whole (negsuc 1)) 8) 8) ≤F lower (sine_term x) 8
 low_is x h =
     rw (lower_is_beneath (sine_term x) 8 ((sine_halving x h).nonneg 9))

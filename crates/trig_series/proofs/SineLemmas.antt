@@ -72,7 +72,7 @@ cut_around_none : (w lo hi p q p' q' : ℤ) → pos 0 ≤ℤ w → p ≡ int_max
 cut_around_none w lo hi p q p' q' z e f e' f' h =
     record { up = omega (arith, ints, clamps, z, e', f', h.up); down = omega (arith, ints, clamps, z, e, f, h.down) }
 
--- what is cut to -1..1 lies no further out, or at an end
+-- what is cut to -1..1 lies no further out, or at an endpoint
 record AreCut (lo hi q q' : ℤ) : Type 0 where
   low : (lo ≤ℤ q) ⊎ (q ≡ ONE)
   high : (q' ≤ℤ hi) ⊎ (q' ≡ neg_ℤ ONE)
@@ -147,7 +147,7 @@ cut_narrow from to lo hi p q p' q' o e f e' f' n s c i =
       inside = λ r t k d. cut_part (octant_of_turn k) _ _ lo hi q q' (omega (arith, ints, o, d.above, d.below)) g (i k d);
     }
 
--- ---- ends that are far from 0 or far apart
+-- ---- endpoints that are far from 0 or far apart
 pub apart_sine : (from to lo hi : ℤ) → TURN ≤ℤ (to -ℤ from) → lo ≡ neg_ℤ ONE → hi ≡ ONE → IsNarrowSine from to lo hi
 apart_sine from to lo hi h e f = record {
   above = omega (arith, ints, e);
@@ -237,7 +237,7 @@ unfolding Lies value tangent_of_degrees
 tangent_holds shown w a r h = record { deep = h.deep; inside = h.inside }
 
 -- ---- and keep their bounds
--- the ends of an enclosure keep its bound, since they lie within it and hold it
+-- the endpoints of an enclosure keep its bound, since they lie within it and hold it
 pub span_keeps : (w : ℕ) (b : Bound) (i : Interval) (lo hi : ℤ) → lo ≤ℤ hi → i ⊆ between (units_of_56 lo) (units_of_56 hi)
     → between (units_of_56 lo) (units_of_56 hi) ⊆ i
     → IsNarrow w b i → IsNarrow w b (between (units_of_56 lo) (units_of_56 hi))
@@ -251,7 +251,7 @@ span_keeps w (bounded a b s t) (between c d) lo hi o g h k = record {
   close = le_trans _ _ _ h.ends.1 (le_trans _ _ _ k.close (plus_mono _ _ _ _ h.ends.0 (le_refl _)));
 }
 
--- ends that keep a bound, in whole numbers
+-- endpoints that keep a bound, in whole numbers
 pub record AreKept (a b : ℤ) (s k w : ℕ) (from to : ℤ) : Type 0 where
   pub low : (a *ℤ pos (2 ^ 24)) ≤ℤ from
   pub high : to ≤ℤ (b *ℤ pos (2 ^ 24))
@@ -296,7 +296,7 @@ in_range : (a b from to : ℤ) → (a *ℤ pos (2 ^ 24)) ≤ℤ from → to ≤�
     → (neg_ℤ (pos (range_size a b * 2 ^ 24)) ≤ℤ from) × (to ≤ℤ pos (range_size a b * 2 ^ 24))
 in_range a b from to l u o = (omega (arith, ints, l), omega (arith, ints, u))
 
--- the ends lie within what values are
+-- the endpoints lie within what values are
 record LieWithin (e : Extent) (lo hi : ℤ) : Type 0 where
   above : (e.least *ℤ pos (2 ^ 24)) ≤ℤ lo
   below : hi ≤ℤ (e.greatest *ℤ pos (2 ^ 24))
@@ -445,7 +445,7 @@ cosine_kept w (bounded a b s t) from to lo hi o h k =
       close = close_57 s t w from to lo hi e.close (h.narrow (omega (arith, ints, m, r.0)) (omega (arith, ints, m, r.1)));
     })
 
--- an operation on ends that keeps their bound, as one of enclosures
+-- an operation on endpoints that keeps their bound, as one of enclosures
 pub sine_keeps : {E : Type 0} (shown : E → Interval) (l : Limits) (r : Reach) (a : Expression) (x y : E) (from to lo hi : ℤ) → from ≤ℤ to → lo ≤ℤ hi
     → shown x ⊆ between (units_of_56 from) (units_of_56 to) → between (units_of_56 from) (units_of_56 to) ⊆ shown x
     → IsNarrowSine from to lo hi → ((w : ℕ) (b : Bound) → IsNarrow w b (between (units_of_56 lo) (units_of_56 hi)) → IsNarrow w (spanned_bound l b) (shown y))

@@ -25,17 +25,17 @@ pub record IsSquare (w : ℕ) (u : Fraction) : Type 0 where
   pub close : u ≤F at_64 (pos w +ℤ pos 112)
   pub small : u ≤F record { num = pos 16; below = 24 }
 
--- at depth n the ends of the sine's sum at x are within 384 of s
+-- at depth n the endpoints of the sine's sum at x are within 384 of s
 pub record AreSineEnds (x : Fraction) (s n : ℕ) : Type 0 where
   pub low : at_64 (pos s -ℤ pos 384) ≤F lower (sine_term x) n
   pub high : upper (sine_term x) n ≤F at_64 (pos s +ℤ pos 384)
 
--- at depth n the ends of the cosine's sum at x are within 320 of s
+-- at depth n the endpoints of the cosine's sum at x are within 320 of s
 pub record AreCosineEnds (x : Fraction) (s n : ℕ) : Type 0 where
   pub low : at_64 (pos s -ℤ pos 320) ≤F lower (cosine_term x) n
   pub high : upper (cosine_term x) n ≤F at_64 (pos s +ℤ pos 320)
 
--- so many degrees that count 2^-56, in radians, by the lower neighbour of pi
+-- so many degrees in units of 2^-56, in radians, by the lower neighbour of pi
 abbrev pub in_radians : ℕ → Fraction
 in_radians d = times (units_of_56 (pos d)) (times (fraction_of PI_BELOW) (one_over 179))
 

@@ -1,4 +1,4 @@
--- The sines at single angles as spans: near the ends of the series, and exact where an octant begins and ends.
+-- The sines at single angles as spans: near the endpoints of the series, and exact where an octant begins and ends.
 use Rattle.std.specs.Prelude.{ℕ, zero, suc, neg_ℤ, unsigned_abs, ◌-◌, ◌*◌, ◌^◌, ℤ, pos, ◌+ℤ◌, ◌-ℤ◌, ◌*ℤ◌, ◌≤ℤ◌, ◌<ℤ◌}
 use Rattle.book_model.specs.Fraction.{◌≤F◌}
 use Rattle.book_model.specs.Sums.{lower, upper}
@@ -8,7 +8,7 @@ use Rattle.encl_core.specs.parts.TheConstants.{OCTANT, QUARTER, ONE}
 use Rattle.encl_core.specs.Units.{at_64}
 use Rattle.trig_series.specs.Kernel.{in_radians}
 
--- lo is hardly below the sine of d degrees that count 2^-56, and hi hardly above it: by four and a half parts of 2^-56
+-- lo is hardly below the sine of d degrees in units of 2^-56, and hi hardly above it: by four and a half parts of 2^-56
 pub record IsNearSine (d : ℕ) (lo hi : ℤ) : Type 0 where
   pub low : upper (sine_term (in_radians d)) 8 ≤F at_64 (lo *ℤ pos 256 +ℤ pos 1152)
   pub high : at_64 (hi *ℤ pos 256 -ℤ pos 1152) ≤F lower (sine_term (in_radians d)) 8
@@ -39,7 +39,7 @@ pub record IsAt (e lo hi : ℤ) : Type 0 where
   pub above : lo ≤ℤ e
   pub below : e ≤ℤ hi
 
--- two spans whose ends are no further apart than a 57th of w and nine parts
+-- two spans whose endpoints are no further apart than a 57th of w and nine parts
 pub record AreSteady (w lo hi lo' hi' : ℤ) : Type 0 where
   pub up : (pos 57 *ℤ (hi' -ℤ lo)) ≤ℤ (w +ℤ pos 513)
   pub down : (pos 57 *ℤ (hi -ℤ lo')) ≤ℤ (w +ℤ pos 513)
@@ -76,8 +76,8 @@ pub record IsSmall (lo hi : ℤ) : Type 0 where
   pub above : neg_ℤ (pos (2 ^ 60)) ≤ℤ lo
   pub below : hi ≤ℤ pos (2 ^ 60)
 
--- the sine of what lies between two ends of degrees: it lies in -1..1, it is hardly wider than a 57th of the ends'
--- width, near 0 degrees it is near 0, near 90 degrees near 1, and inside an octant it is as the octant's ends say
+-- the sine of what lies between two endpoints of degrees: it lies in -1..1, it is hardly wider than a 57th of the endpoints'
+-- width, near 0 degrees it is near 0, near 90 degrees near 1, and inside an octant it is as the octant's endpoints say
 pub record IsNarrowSine (from to lo hi : ℤ) : Type 0 where
   pub above : neg_ℤ ONE ≤ℤ lo
   pub below : hi ≤ℤ ONE

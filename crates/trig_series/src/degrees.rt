@@ -20,7 +20,7 @@ use crate::octants::sine_over_degrees;
 use encl_core::parts::{ONE, QUARTER, TURN};
 use encl_core::{Enclosure, Span};
 
-/// 2⁶⁴ degrees, which count 2⁻⁵⁶. Further from 0 no octants are counted.
+/// 2⁶⁴ degrees, in units of 2⁻⁵⁶. Further from 0 the octants of degrees are not counted, and a sine is any from -1 to 1.
 const FAR: i128 = 1 << 120;
 
 /// What every sine lies in.
@@ -31,7 +31,7 @@ fn all_sines() -> Span
     Span { lo: -ONE, hi: ONE }
 }
 
-/// The sine over ends that are not too far from 0 and less than a turn apart, cut to -1..1.
+/// The sine over endpoints that are not too far from 0 and less than a turn apart, cut to -1..1.
 #[inline(always)]
 fn cut_sine_over_degrees(lo: i128, hi: i128) -> Span
     requires ordered { lo ≤ℤ hi }
@@ -48,7 +48,7 @@ fn cut_sine_over_degrees(lo: i128, hi: i128) -> Span
     Span { lo: low, hi: high }
 }
 
-/// The sine over ends in degrees; whatever a sine may be, where they are a turn or more apart, or too far from 0.
+/// The sine over endpoints in degrees; whatever a sine may be, where they are a turn or more apart, or too far from 0.
 fn sine_over_span(degrees: Span) -> Span
     ensures holds { (n : ℕ) → DEPTH ≤ n → sine_of_degrees n
         (between (units_of_56 degrees.lo) (units_of_56 degrees.hi))
@@ -68,7 +68,7 @@ fn sine_over_span(degrees: Span) -> Span
     cut_sine_over_degrees(degrees.lo, degrees.hi)
 }
 
-/// The cosine over ends in degrees: the sine over 90 degrees more.
+/// The cosine over endpoints in degrees: the sine over 90 degrees more.
 fn cosine_over_span(degrees: Span) -> Span
     ensures holds { (n : ℕ) → DEPTH ≤ n → cosine_of_degrees n
         (between (units_of_56 degrees.lo) (units_of_56 degrees.hi))
@@ -87,9 +87,9 @@ fn cosine_over_span(degrees: Span) -> Span
 
 /// The sine of degrees.
 ///
-/// The degrees are reduced exactly, by octants of 45. Where they lie inside one octant, its series is taken at one end,
+/// The degrees are reduced exactly, by octants of 45. Where they lie inside one octant, its series is taken at one endpoint,
 /// and from there to the other the sine moves by at most a 57th of the degrees. Else the series of sine and cosine
-/// are taken at the ends of what they have in common with each octant that they meet. What is left out of a series
+/// are taken at the endpoints of what they have in common with each octant that they meet. What is left out of a series
 /// widens it. The result is at most a 57th as wide as the degrees, and two units of its scale and 36 parts of 2⁻⁵⁶.
 pub fn sin_deg<E: Enclosure>(x: E) -> E
     ensures encloses { Encloses1 E.shown E.BITS sine x result }

@@ -1,10 +1,10 @@
 //! Sine and cosine in the first octant, in 64 bits.
 //!
-//! All numbers count 2⁻⁶⁴. The coefficients are 1 / n!, rounded down, and Horner's form takes them from the inside
+//! All numbers are in units of 2⁻⁶⁴. The coefficients are 1 / n!, rounded down, and Horner's form takes them from the inside
 //! out. A step makes an error of at most 320 into one of at most 320, since the square of an angle is at most 16/25.
 //!
-//! One scale for every kind of enclosure, whose own scale the ends get by `from_span`. Each step is inlined: the terms
-//! run as one line of multiplications, with no loop, no table and no bounds.
+//! One scale for every kind of enclosure, whose own scale the endpoints get by `from_span`. Each step is inlined: the
+//! terms run as one line of multiplications, with no loop, no table and no bounds checks.
 ghost use Rattle.std.specs.Prelude.{◌≤◌, ◌*◌, ◌-◌, ◌^◌, ℕ, pos, ◌-ℤ◌, ◌+ℤ◌};
 ghost use Rattle.book_model.specs.Fraction.{Fraction, ◌≤F◌, plus, opposite, times};
 ghost use Rattle.book_model.specs.Interval.{zero_fraction, between, ◌⊆◌};
@@ -65,7 +65,7 @@ fn cosine_of_angle_64(angle: u64) -> u64
     step(18_446_744_073_709_551_615, square, b)
 }
 
-/// So many degrees of an octant, which count 2⁻⁵⁶, in radians: at most 68 less. The factor is pi · 2⁶⁹ / 180.
+/// So many degrees of an octant, in units of 2⁻⁵⁶, in radians: at most 68 less. The factor is pi · 2⁶⁹ / 180.
 #[inline(always)]
 fn angle(degrees: u64) -> u64
     requires octant { degrees ≤ OCTANT }
@@ -78,7 +78,7 @@ fn angle(degrees: u64) -> u64
     high_half(degrees * 4, 10_302_605_451_487_463_560) * 2
 }
 
-/// The sine of so many degrees of an octant, which count 2⁻⁵⁶, within 384.
+/// The sine of so many degrees of an octant, in units of 2⁻⁵⁶, within 384.
 pub fn sine_of_degrees_56(degrees: u64) -> u64
     requires octant { degrees ≤ OCTANT }
     ensures near { (n : ℕ) → 12 ≤ n → sine_series n (radians n (units_of_56 (pos degrees)))
@@ -89,7 +89,7 @@ pub fn sine_of_degrees_56(degrees: u64) -> u64
     sine_of_angle_64(angle(degrees))
 }
 
-/// The cosine of so many degrees of an octant, which count 2⁻⁵⁶, within 320.
+/// The cosine of so many degrees of an octant, in units of 2⁻⁵⁶, within 320.
 pub fn cosine_of_degrees_56(degrees: u64) -> u64
     requires octant { degrees ≤ OCTANT }
     ensures near { (n : ℕ) → 12 ≤ n → cosine_series n (radians n (units_of_56 (pos degrees)))

@@ -3,8 +3,8 @@
 //!
 //! - `sin_deg`, `cos_deg` and `tan_deg`: of degrees, which are reduced exactly;
 //! - `pi`: the number, from the crate of the enclosures;
-//! - `sine_of_degrees_56` and `cosine_of_degrees_56`: of the degrees of one octant in 64 bits, on which the others stand, and sums of waves
-//!   in whole numbers too.
+//! - `sine_of_degrees_56` and `cosine_of_degrees_56`: of the degrees of one octant in 64 bits, on which the others stand, and sums of
+//!   periodic terms in whole numbers too.
 #![tactic(auto)]
 
 mod degrees;

@@ -40,7 +40,7 @@ fn sine_into_octant_of_half_turn(octant: i128, degrees: u64) -> Span
     sine_ends_at_degrees(OCTANT - degrees)
 }
 
-/// From the lesser lower to the greater upper end.
+/// From the lesser lower to the greater upper endpoint.
 #[inline(always)]
 fn hull(first: Span, second: Span) -> Span
     ensures low { result.lo ≡ int_min first.lo second.lo }
@@ -104,7 +104,7 @@ fn sine_at_degrees_in_octant(octant: i128, degrees: i128) -> Span
     )
 }
 
-/// The sine over the part of two ends, which count 2⁻⁵⁶, in an octant that they meet.
+/// The sine over the part of two endpoints, in units of 2⁻⁵⁶, in an octant that they meet.
 #[inline(always)]
 fn sine_over_degrees_in_octant(octant: i128, lo: i128, hi: i128) -> Span
     requires from { neg_ℤ (pos (2 ^ 60)) ≤ℤ octant }
@@ -133,8 +133,8 @@ fn sine_over_degrees_in_octant(octant: i128, lo: i128, hi: i128) -> Span
     hull(low, high)
 }
 
-/// How often 45 goes into a number, rounded down. It goes 2²⁷ times more into what is divided, which isn't below 0:
-/// without a sign a division by a constant is a multiplication.
+/// How often 45 goes into a number, rounded down. What is divided is 2²⁷ times 45 greater, and so isn't below 0: a
+/// division without a sign by a constant is a multiplication.
 #[inline(always)]
 fn times_of_45(number: i32) -> i64
     ensures value { result ≡ int_div_euclid number (pos 45) }
@@ -143,7 +143,7 @@ fn times_of_45(number: i32) -> i64
     (raised / 45) as i64 - 134_217_728
 }
 
-/// How often an octant goes into degrees, which count 2⁻⁵⁶, rounded down: as often as 45 into their whole number,
+/// How often an octant goes into degrees, in units of 2⁻⁵⁶, rounded down: as often as 45 into their whole number,
 /// which nearly always fits in 32 bits.
 #[inline(always)]
 fn octants_in(degrees: i128) -> i128
@@ -156,7 +156,7 @@ fn octants_in(degrees: i128) -> i128
     }
 }
 
-/// The first octant that ends at or above so many degrees, which count 2⁻⁵⁶.
+/// The first octant that ends at or above so many degrees, in units of 2⁻⁵⁶.
 #[inline(always)]
 fn first_met(lo: i128) -> i128
     requires from { neg_ℤ (pos (2 ^ 120)) ≤ℤ lo }
@@ -170,7 +170,7 @@ fn first_met(lo: i128) -> i128
     -octants_in(-lo) - 1
 }
 
-/// The last octant that begins at or below so many degrees, which count 2⁻⁵⁶.
+/// The last octant that begins at or below so many degrees, in units of 2⁻⁵⁶.
 #[inline(always)]
 fn last_met(hi: i128) -> i128
     requires from { neg_ℤ (pos (2 ^ 120)) ≤ℤ hi }
@@ -186,7 +186,7 @@ fn last_met(hi: i128) -> i128
 
 // Over an edge 9 parts of 2⁻⁵⁶ are allowed for each octant, up to four; three octants have more
 // room than a sine can move.
-/// The sine over the octants from the first to the last that two ends meet.
+/// The sine over the octants from the first to the last that two endpoints meet.
 #[cold]
 fn sine_over_octants(first: i128, last: i128, lo: i128, hi: i128) -> Span
     requires ordered { lo ≤ℤ hi }
@@ -216,7 +216,7 @@ fn sine_over_octants(first: i128, last: i128, lo: i128, hi: i128) -> Span
 }
 
 // The usual case is inlined, so that it runs without a call; what is over an edge is `#[cold]`.
-/// The sine over ends, which count 2⁻⁵⁶, that lie in one octant.
+/// The sine over endpoints, in units of 2⁻⁵⁶, that lie in one octant.
 #[inline(always)]
 fn sine_within_octant(octant: i128, lo: i128, hi: i128) -> Span
     requires from { neg_ℤ (pos (2 ^ 60)) ≤ℤ octant }
@@ -241,7 +241,7 @@ fn sine_within_octant(octant: i128, lo: i128, hi: i128) -> Span
     part_of_turn(octant_in_turn(octant), from, to)
 }
 
-/// The sine over ends that meet several octants.
+/// The sine over endpoints that meet several octants.
 #[cold]
 fn sine_over_edges(lo: i128, hi: i128) -> Span
     requires ordered { lo ≤ℤ hi }
@@ -261,7 +261,7 @@ fn sine_over_edges(lo: i128, hi: i128) -> Span
     sine_over_octants(first_met(lo), last_met(hi), lo, hi)
 }
 
-/// The sine from one number of degrees to another, which count 2⁻⁵⁶. Its width is at most a 57th of theirs, and 36
+/// The sine from one number of degrees to another, in units of 2⁻⁵⁶. Its width is at most a 57th of theirs, and 36
 /// parts, unless they are three octants or more apart.
 #[inline(always)]
 pub(crate) fn sine_over_degrees(lo: i128, hi: i128) -> Span

@@ -15,8 +15,8 @@ use crate::points::{opposite, span_around};
 use encl_core::Span;
 use encl_core::parts::OCTANT;
 
-// One series instead of two: the other end is moved in the direction in which the sine runs there.
-// That neither moves more is a lemma on the series. Where both ends are one number nothing is
+// One series instead of two: the other endpoint is moved in the direction in which the sine runs there.
+// That neither moves more is a lemma on the series. Where both endpoints are one number nothing is
 // moved.
 /// How far a sine or a cosine moves at most over so many degrees of an octant: a 57th of them, rounded up.
 #[inline(always)]
@@ -28,7 +28,7 @@ fn most_moved(degrees: u64) -> i128
     i128::from(degrees.div_ceil(57))
 }
 
-/// The sine from so many degrees of an octant to as many more, which count 2⁻⁵⁶. It rises.
+/// The sine from so many degrees of an octant to as many more, in units of 2⁻⁵⁶. It rises.
 #[inline(always)]
 fn sine_ends_over_degrees(from: u64, to: u64) -> Span
     requires ordered { from ≤ to }
@@ -47,7 +47,7 @@ fn sine_ends_over_degrees(from: u64, to: u64) -> Span
     }
 }
 
-/// The cosine from so many degrees of an octant to as many more, which count 2⁻⁵⁶. It falls.
+/// The cosine from so many degrees of an octant to as many more, in units of 2⁻⁵⁶. It falls.
 #[inline(always)]
 fn cosine_ends_over_degrees(from: u64, to: u64) -> Span
     requires ordered { from ≤ to }

@@ -27,7 +27,7 @@ pub(crate) fn opposite(span: Span) -> Span
     }
 }
 
-/// What lies within so many parts of 2⁻⁶⁴, fewer than 2 · 2⁸, of a number that counts 2⁻⁶⁴.
+/// What lies within so many parts of 2⁻⁶⁴, fewer than 2 · 2⁸, of a number in units of 2⁻⁶⁴.
 #[inline(always)]
 pub(crate) fn span_around(number: u64) -> Span
     ensures room { IsSmall result.lo result.hi }
@@ -43,7 +43,7 @@ pub(crate) fn span_around(number: u64) -> Span
     }
 }
 
-// Ends that hold the sine and the cosine both, so that octants meet.
+// Endpoints that hold the sine and the cosine both, so that octants meet.
 /// The sine and the cosine of 45 degrees.
 fn at_octant_end() -> Span
     ensures low { result.lo ≡ pos 50952413380206178 }
@@ -56,7 +56,7 @@ fn at_octant_end() -> Span
 }
 
 // Exact at 0: so a sine at a multiple of 90 degrees is exact.
-/// The sine of so many degrees of an octant, which count 2⁻⁵⁶; exact at 0.
+/// The sine of so many degrees of an octant, in units of 2⁻⁵⁶; exact at 0.
 #[inline(always)]
 pub(crate) fn sine_ends_at_degrees(degrees: u64) -> Span
     requires octant { degrees ≤ OCTANT }
@@ -76,7 +76,7 @@ pub(crate) fn sine_ends_at_degrees(degrees: u64) -> Span
     span_around(sine_of_degrees_56(degrees))
 }
 
-/// The cosine of so many degrees of an octant, which count 2⁻⁵⁶; exact at 0.
+/// The cosine of so many degrees of an octant, in units of 2⁻⁵⁶; exact at 0.
 #[inline(always)]
 pub(crate) fn cosine_ends_at_degrees(degrees: u64) -> Span
     requires octant { degrees ≤ OCTANT }

@@ -1,7 +1,7 @@
 -- The Bahá'í calendar by the sunset of Tehran: a year begins on the day by whose sunset, with which it begins on the evening
 -- before, the sun has passed the spring equinox. It has 19 months of 19 days; before the last come the four or five days of
--- Ayyám-i-Há, which count as month 0. Reingold and Dershowitz, Calendrical Calculations, chapter 16. The fields of a result
--- that their types don't hold stand at the nearest ends, so that the rules have an answer over every table.
+-- Ayyám-i-Há, which count as month 0. Reingold and Dershowitz, Calendrical Calculations, chapter 16. The fields of a result that
+-- their types don't hold are clamped to the nearest bounds, so that the rules have an answer over every table.
 use Rattle.std.specs.Prelude.{if◌then◌else◌, [], ◌∷◌, ℤ, pos, negsuc, ◌+ℤ◌, ◌-ℤ◌, ◌*ℤ◌, int_le}
 use Rattle.std.specs.Ordering.{int_eq}
 use Rattle.book_model.specs.declared.bahai.BahaiMonth.{BahaiMonth}

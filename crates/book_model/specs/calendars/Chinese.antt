@@ -1,8 +1,8 @@
 -- The Chinese calendar by the sky of Beijing: a month begins on the day of a new moon, the month of the winter solstice is
--- the eleventh, and where twelve months lie between two of these, the first that is bare, with no major solar term, is a leap month.
+-- the eleventh, and where twelve months lie between two of these, the first without a major solar term is a leap month.
 -- Reingold and Dershowitz, Calendrical Calculations, chapter 19; Aslaksen, The Mathematics of the Chinese Calendar.
--- The fields of a result that their types don't hold stand at the nearest ends, so that the rules have an answer over every
--- table.
+-- The fields of a result that their types don't hold are clamped to the nearest bounds, so that the rules have an answer over
+-- every table.
 use Rattle.std.specs.Prelude.{ℕ, zero, suc, ◌&&◌, if◌then◌else◌, Bool, true, false, not, [], ◌∷◌, ℤ, pos, ◌+ℤ◌, ◌-ℤ◌, ◌*ℤ◌, int_lt}
 use Rattle.std.specs.Ordering.{int_eq}
 use Rattle.book_model.specs.declared.calendar_tables.TheConstants.{CHINESE_EPOCH, TROPICAL_YEAR}
@@ -58,8 +58,8 @@ is_leap_sui sui =
     done (int_eq (months_between sui.first_month eleventh) (pos 12))
 
 -- ---- leap months
--- whether a month, by the day on which it begins, is bare: no major solar term falls in it, so that the last one when it
--- begins is still the last when the next month begins
+-- whether a month, by the day on which it begins, has no major solar term: the last one when it begins is still the last when
+-- the next month begins
 unfoldable pub bare : ℤ → Inquiry Bool
 bare month =
     ask (major_fact month) λ term.
@@ -67,8 +67,8 @@ bare month =
     ask (major_fact next) λ next_term.
     done (int_eq term next_term)
 
--- Whether a month, or one before it as far as the first of its sui, is bare: those before it are asked first, and it itself
--- only where none of them is. So many calls are made, and one more answers no.
+-- Whether a month, or one before it as far as the first of its sui, has no major term: those before it are asked first, and it
+-- itself only where each of them has one. So many calls are made, and one more answers no.
 unfoldable pub prior : ℕ → ℤ → ℤ → Inquiry Bool
 prior zero first month = done false
 prior (suc calls) first month =
@@ -82,7 +82,7 @@ prior (suc calls) first month =
 unfoldable pub is_from_leap_month : Bool → ℤ → ℤ → Inquiry Bool
 is_from_leap_month leap_sui first month = if leap_sui then prior 15 first month else done false
 
--- whether a month of a sui is its leap month, given whether the sui has one: it is bare, and none before it is
+-- whether a month of a sui is its leap month, given whether the sui has one: it has no major term, and each before it has one
 unfoldable pub is_leap_month : Bool → ℤ → ℤ → Inquiry Bool
 is_leap_month leap_sui first month =
     if not leap_sui then done false else (

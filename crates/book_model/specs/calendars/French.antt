@@ -1,6 +1,6 @@
 -- The French calendar of the Revolution by the equinox: a year begins on the day at whose end, at apparent midnight in Paris, the sun
--- has come to the autumnal equinox. The fields of a result that their types don't hold stand at the nearest ends, so that the rules
--- have an answer over every table. Reingold and Dershowitz, Calendrical Calculations, chapter 17.
+-- has come to the autumnal equinox. The fields of a result that their types don't hold are clamped to the nearest bounds, so that the
+-- rules have an answer over every table. Reingold and Dershowitz, Calendrical Calculations, chapter 17.
 use Rattle.std.specs.Prelude.{[], ◌∷◌, ℤ, pos, ◌+ℤ◌, ◌-ℤ◌, ◌*ℤ◌}
 use Rattle.book_model.specs.declared.calendar_tables.TheConstants.{FRENCH_EPOCH}
 use Rattle.book_model.specs.declared.fact.Fact.{Fact}

@@ -1,7 +1,7 @@
 -- The Hebrew calendar by observation: a month begins on the day on whose evening before the crescent is first seen, at Haifa by
 -- Shaukat's criterion, and Nisan is the month about the spring equinox. Months are counted from Nisan; the number of the year changes
--- with Tishri, the seventh. That number is counted by this project. The fields of a result that their types don't hold stand at the
--- nearest ends, so that the rules have an answer over every table. Reingold and Dershowitz, Calendrical Calculations, chapter 18.
+-- with Tishri, the seventh. That number is counted by this project. The fields of a result that their types don't hold are clamped to
+-- the nearest bounds, so that the rules have an answer over every table. Reingold and Dershowitz, Calendrical Calculations, chapter 18.
 use Rattle.std.specs.Prelude.{if◌then◌else◌, [], ◌∷◌, ℤ, pos, ◌+ℤ◌, ◌-ℤ◌, int_le, int_lt}
 use Rattle.exact_math.specs.Fraction.{whole, times, reciprocal}
 use Rattle.book_model.specs.declared.calendar_tables.TheConstants.{OBSERVED_MONTH, TISHRI, WORLD_ERA}
@@ -30,7 +30,7 @@ observed_months_of days = nearest (times (whole days) (reciprocal (fraction_of O
 unfoldable pub days_of_observed_months : ℤ → ℤ
 days_of_observed_months months = nearest (times (fraction_of OBSERVED_MONTH) (whole months))
 
--- what the number of the year is ahead of that of the Gregorian year in which Nisan came last, in a month
+-- how much the number of the Hebrew year, in a month, exceeds that of the Gregorian year in which Nisan came last
 abbrev pub years_ahead : ℤ → ℤ
 years_ahead month = WORLD_ERA +ℤ flag (int_le TISHRI month)
 

@@ -2,7 +2,7 @@
 -- sun enters in it; a month in which it enters none is an added one, with the number of the next. A day has the number of the
 -- lunar day, the tithi, at its sunrise; a second day with the same tithi is a leap day. Years are counted by the Vikrama era. The
 -- day of a date is this project's own. Reingold and Dershowitz, Calendrical Calculations, chapter 20. The fields of a result that
--- their types don't hold stand at the nearest ends, so that the rules have an answer over every table.
+-- their types don't hold are clamped to the nearest bounds, so that the rules have an answer over every table.
 use Rattle.std.specs.Prelude.{Bool, ◌&&◌, if◌then◌else◌, List, [], ◌∷◌, ℤ, pos, ◌+ℤ◌, ◌-ℤ◌, int_le}
 use Rattle.std.specs.Ordering.{int_eq}
 use Rattle.book_model.specs.declared.calendar_tables.TheConstants.{HINDU_EPOCH, VIKRAMA_ERA}

@@ -1,6 +1,6 @@
 -- The Hindu solar calendar by the true sun, at Ujjain: a month is that in which the sun stands in a sign of the zodiac at sunset. Years
 -- are counted by the Saka era. The day of a date is this project's own. Reingold and Dershowitz, Calendrical Calculations, chapter
--- 20. The fields of a result that their types don't hold stand at the nearest ends, so that the rules have an answer over every
+-- 20. The fields of a result that their types don't hold are clamped to the nearest bounds, so that the rules have an answer over every
 -- table.
 use Rattle.std.specs.Prelude.{[], ◌∷◌, ℤ, pos, ◌+ℤ◌, ◌-ℤ◌, ◌*ℤ◌}
 use Rattle.book_model.specs.declared.calendar_tables.TheConstants.{HINDU_EPOCH, SAKA_ERA, SIDEREAL_YEAR}

@@ -63,7 +63,7 @@ fact_eq f g = (kind_number f.kind == kind_number g.kind) && (place_number f.plac
 abbrev pub with_fact : List Fact → Fact → List Fact
 with_fact seen f = if list_any (fact_eq f) seen then seen else seen ++ f ∷ []
 
--- facts, each once, and all these in order, each as the fact under which it is kept
+-- facts, each once, and all these in order, each as the fact under which it is stored
 abbrev pub with_kept : (Fact → Fact) → List Fact → List Fact → List Fact
 with_kept kept_as seen [] = seen
 with_kept kept_as seen (f ∷ fs) = with_kept kept_as (with_fact seen (kept_as f)) fs
@@ -72,7 +72,7 @@ with_kept kept_as seen (f ∷ fs) = with_kept kept_as (with_fact seen (kept_as f
 abbrev pub with_entry : List (Fact × ℤ) → Fact → ℤ → List (Fact × ℤ)
 with_entry seen f v = if list_any (λ e. fact_eq f e.0) seen then seen else seen ++ (f, v) ∷ []
 
--- what comes of an inquiry: a result with the facts that were asked, or the first that is open or void
+-- what comes of an inquiry: a result with the facts that were asked, or the first that is undecided or void
 pub data Finding (A : Type 0) : Type 0 where
   found : A → List (Fact × ℤ) → Finding A
   stopped : Fact → Finding A

@@ -1,6 +1,6 @@
 -- The Islamic calendar by observation: a month begins on the day on whose evening before the crescent is first seen, at Cairo by
--- Shaukat's criterion. The fields of a result that their types don't hold stand at the nearest ends, so that the rules have an
--- answer over every table. Reingold and Dershowitz, Calendrical Calculations, chapter 18.
+-- Shaukat's criterion. The fields of a result that their types don't hold are clamped to the nearest bounds, so that the rules
+-- have an answer over every table. Reingold and Dershowitz, Calendrical Calculations, chapter 18.
 use Rattle.std.specs.Prelude.{[], ◌∷◌, ℤ, pos, ◌+ℤ◌, ◌-ℤ◌, ◌*ℤ◌}
 use Rattle.book_model.specs.declared.calendar_tables.TheConstants.{ISLAMIC_EPOCH, SYNODIC_MONTH}
 use Rattle.book_model.specs.declared.fact.Fact.{Fact}

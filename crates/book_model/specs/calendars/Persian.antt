@@ -1,6 +1,6 @@
 -- The Persian calendar by the equinox: a year begins on the day on which the sun has passed it at true noon in Tehran.
--- The fields of a result that their types don't hold stand at the nearest ends, so that the rules have an answer
--- over every table. Reingold and Dershowitz, Calendrical Calculations, chapter 15.
+-- The fields of a result that their types don't hold are clamped to the nearest bounds, so that the rules have an
+-- answer over every table. Reingold and Dershowitz, Calendrical Calculations, chapter 15.
 use Rattle.std.specs.Prelude.{if◌then◌else◌, [], ◌∷◌, ℤ, pos, ◌+ℤ◌, ◌-ℤ◌, ◌*ℤ◌, int_le}
 use Rattle.book_model.specs.declared.calendar_tables.TheConstants.{PERSIAN_EPOCH}
 use Rattle.book_model.specs.declared.fact.Fact.{Fact}

@@ -1,4 +1,4 @@
--- The versions of printed files, by their rows: which days a line may name, of which a fact had a value, and of which years there is
+-- The versions of certificates, by their rows: which days a line may name, of which a fact had a value, and of which years there is
 -- an almanac; the kinds, places and sites that it has; the first line of a file, and the version that a first line gives.
 use Rattle.std.specs.Prelude.{ℕ, ◌≤◌, nat_le, ◌||◌, if◌then◌else◌, Bool, false, List, [], ◌∷◌, Option, Some, None, map, ℤ, pos, slice_index_or}
 use denote.Enum.Declared.{tag_of}

@@ -25,19 +25,19 @@ abbrev pub shown_on : ToWord → Meaning → ℤ → Inquiry Resolved
 shown_on to (Date c) day = and_then (date_on c day) (λ fields. done (Shown to fields))
 shown_on to (Value kind place) day = ask (fact_on kind place day) (λ v. done (Shown to (one_field v)))
 
--- what a day within the range comes to
+-- the result of a day within the range
 abbrev pub result_on : ToWord → ℤ → Inquiry Resolved
 result_on to day = shown_on to (shown_by to) day
 
--- what a day comes to whose own date is this one; the date given has to be the same
+-- the result of a day whose own date is this one; the date given has to be the same
 unfoldable pub confirmed : Request → ℤ → Fields → Inquiry Resolved
 confirmed r day back = if are_same_fields back r.date then result_on r.to day else done (NoDate back)
 
--- what a day within the range comes to that a date names; some calendars have dates that no day has
+-- the result of a day within the range that a date names; some calendars have dates that no day has
 unfoldable pub result_within : Request → ℤ → Inquiry Resolved
 result_within r day = if (row_of (calendar_of r.from)).is_confirmed then and_then (date_on (calendar_of r.from) day) (confirmed r day) else result_on r.to day
 
--- what a day comes to that a date names, in lines of a version
+-- the result of a day that a date names, in lines of a version
 unfoldable pub result_of_day : Version → Request → ℤ → Inquiry Resolved
 result_of_day version r day = if is_reached version r.from r.to day then result_within r day else done (TooFar day)
 

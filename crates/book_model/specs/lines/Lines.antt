@@ -57,7 +57,7 @@ abbrev pub parts_of : List ℕ → List (List ℕ)
 parts_of [] = [] ∷ []
 parts_of (b ∷ bs) = if b == 45 then [] ∷ parts_of bs else onto_first b (parts_of bs)
 
--- the number of which n is the front and these digits are the rest
+-- the number that begins with the digits of n and goes on with these
 abbrev pub value_from : ℕ → List ℕ → Option ℕ
 value_from n [] = Some n
 value_from n (b ∷ bs) = if nat_lt 47 b && nat_lt b 58 then value_from (10 * n + (b - 48)) bs else None

@@ -54,7 +54,7 @@ abbrev pub RowAsks : Version → Result Request Rule → Fact → Type 0
 RowAsks version (Err rule) f = ⊥
 RowAsks version (Ok r) f = AsksAlways version r f
 
--- whether what a line comes to is shown
+-- whether the outcome of a line is shown
 abbrev pub is_shown : Resolved → Bool
 is_shown (Shown to fields) = true
 is_shown (TooFar day) = false

@@ -14,7 +14,7 @@ use Rattle.book_model.specs.sky.Correction.{is_between}
 abbrev pub later : ℤ → ℤ → ℤ
 later a b = if int_le a b then b else a
 
--- the first day of which there is what a word is about: of a date the first that its calendar tells, of the value of a fact any
+-- the first day for which what a word is about exists: the first day that a calendar tells, for a date; any, for the value of a fact
 abbrev pub first_day_of : Meaning → ℤ
 first_day_of (Date c) = (row_of c).first_day
 first_day_of (Value kind place) = pos 0

@@ -38,7 +38,7 @@ fact_text number f value = concat (codes "fact " ∷ decimal number ∷ codes " 
 abbrev pub first_value : Fields → ℤ
 first_value f = slice_index_or f.values 0 (pos 0)
 
--- the decimal digits of a number, with zeros in front up to this many digits
+-- the decimal digits of a number, with leading zeros up to this many digits
 abbrev pub padded : ℕ → ℕ → List ℕ
 padded width n = replicate (width - length (decimal n)) 48 ++ decimal n
 

@@ -28,7 +28,7 @@ from_words = map (λ row. (row.0, row.1.now)) FROM_WORDS
 abbrev pub to_words : List (ToWord × List ℕ)
 to_words = map (λ row. (row.0, row.1.now)) TO_WORDS
 
--- the first version of printed files that has a word
+-- the first version of certificates that has a word
 abbrev pub from_since : FromWord → Version
 from_since from = slice_index_or (map (λ row. row.2.1) FROM_WORDS) (tag_of from_type from) One
 

@@ -73,12 +73,12 @@ abbrev pub ends_from : Option Fraction → Fraction → Bool
 ends_from None a = true
 ends_from (Some e) a = is_at_most a e
 
--- the lower end of the part of what begins at a
+-- the lower endpoint of the part of what begins at a
 abbrev pub low_from : Option Fraction → Fraction → Fraction
 low_from None a = a
 low_from (Some e) a = larger e a
 
--- the upper end of the part of what ends at b
+-- the upper endpoint of the part of what ends at b
 abbrev pub high_to : Option Fraction → Fraction → Fraction
 high_to None b = b
 high_to (Some e) b = smaller e b
@@ -87,7 +87,7 @@ high_to (Some e) b = smaller e b
 abbrev pub meets : (a b : Fraction) → Piece → Bool
 meets a b p = begins_by p.begin b && ends_from p.end a
 
--- the arctangents at the two ends of the part of a .. b in a piece
+-- the arctangents at the two endpoints of the part of a .. b in a piece
 unfoldable pub arc_of_part : ℕ → (a b : Fraction) → Piece → Interval
 arc_of_part n a b p = hull (p.arc n (low_from p.begin a)) (p.arc n (high_to p.end b))
 
@@ -105,7 +105,7 @@ unfoldable pub hull_of_all : List Interval → Interval
 hull_of_all [] = everything
 hull_of_all (i ∷ is) = hull_with i is
 
--- the arctangent of an interval in degrees: the hull over the pieces that it meets, each at the two ends of its part
+-- the arctangent of an interval in degrees: the hull over the pieces that it meets, each at the two endpoints of its part
 unfoldable pub arctangent_of : ℕ → Interval → Interval
 arctangent_of n everything = everything
 arctangent_of n (between a b) = hull_of_all (arcs_over n a b pieces)

@@ -1,4 +1,4 @@
--- Bounds of enclosures, computed along expressions: a range of the ends, and a greatest width that is linear in
+-- Bounds of enclosures, computed along expressions: a range of the endpoints, and a greatest width that is linear in
 -- the width of a moment. An operation that isn't analysed yet promises nothing.
 use Rattle.std.specs.Prelude.{ℕ, zero, suc, ◌+◌, ◌-◌, ◌*◌, ◌/◌, ◌^◌, max, Bool, true, false, cond, ℤ, pos, negsuc, neg_ℤ, unsigned_abs, ◌+ℤ◌, ◌-ℤ◌, ◌*ℤ◌, nat_le, nat_lt, int_le, ◌&&◌}
 use Rattle.std.specs.Int.{int_min, int_max}
@@ -9,8 +9,8 @@ use Rattle.book_model.specs.numbers.Roots.{root_by_digits}
 use Rattle.book_model.specs.numbers.Octants.{octant_of_turn}
 use Rattle.book_model.specs.numbers.Expressions.{Expression, argument, integer, constant, add, subtract, multiply, divide, negate, scale, power, minimum, maximum, hull, clamp, widen, pi, sine, cosine, tangent, root, arctangent, arcsine, arccosine, arctangent_of_two, remainder}
 
--- The ends lie from low to high, in 2^-32. The width is at most slope * w + slack, where the width w of a moment
--- and slack count 2^-64, and slope counts 2^-40.
+-- The endpoints lie from low to high, in 2^-32. The width is at most slope * w + slack, where the width w of a moment and slack
+-- are in units of 2^-64, and slope in units of 2^-40.
 pub data Bound : Type 0 where
   unbounded : Bound
   bounded : (low high : ℤ) → (slope slack : ℕ) → Bound
@@ -66,7 +66,7 @@ sum_bound l (bounded a b s k) (bounded c d t m) =
 abbrev pub ceil_quotient : ℤ → ℕ → ℤ
 ceil_quotient n d = neg_ℤ (floor_quotient (neg_ℤ n) d)
 
--- times n / (d + 1), for a number from a to b of size A: its two ends, and the width times the size of n, and two units
+-- times n / (d + 1), for a number from a to b of size A: its two endpoints, and the width times the size of n, and two units
 abbrev pub scaled_within : Limits → (n : ℤ) (d : ℕ) (a b : ℤ) (A N s k : ℕ) → Bound
 scaled_within l n d a b A N s k =
     limited
@@ -99,7 +99,7 @@ least_corner a b c d = int_min (int_min (a *ℤ c) (a *ℤ d)) (int_min (b *ℤ 
 abbrev pub greatest_corner : (a b c d : ℤ) → ℤ
 greatest_corner a b c d = int_max (int_max (a *ℤ c) (a *ℤ d)) (int_max (b *ℤ c) (b *ℤ d))
 
--- products that count 2^-64, in 2^-32, rounded down and up
+-- products in units of 2^-64, in 2^-32, rounded down and up
 abbrev pub floor_of_product : ℤ → ℤ
 floor_of_product n = floor_quotient n (2 ^ 32 - 1)
 
@@ -138,7 +138,7 @@ power_bound l x (suc zero) = unbounded
 power_bound l x (suc (suc zero)) = square_bound l x
 power_bound l x (suc (suc (suc k))) = product_bound l (power_bound l x (suc (suc k))) x
 
--- a / (c + 1) and a / (d + 1) of numbers that count 2^-32: the lesser, rounded down, and the greater, rounded up
+-- a / (c + 1) and a / (d + 1) of numbers in units of 2^-32: the lesser, rounded down, and the greater, rounded up
 abbrev pub least_quotient : ℤ → (c d : ℕ) → ℤ
 least_quotient a c d = int_min (floor_quotient (a *ℤ pos (2 ^ 32)) c) (floor_quotient (a *ℤ pos (2 ^ 32)) d)
 
@@ -209,7 +209,7 @@ root_bound l (bounded (pos a) (pos (suc b)) s k) =
     limited (nat_lt a l.sizes && nat_lt (suc b) l.sizes && nat_lt (suc b) l.products)
     (root_around l (root_by_digits 48 (a * 2 ^ 32)) (suc (root_by_digits 48 (suc b * 2 ^ 32))) s k)
 
--- an end, cut to -1..1
+-- an endpoint, cut to -1..1
 abbrev pub cut_32 : ℤ → ℤ
 cut_32 a = int_max (int_min a (pos (2 ^ 32))) (neg_ℤ (pos (2 ^ 32)))
 
@@ -223,7 +223,7 @@ unfoldable pub remainder_bound : Limits → ℕ → Bound → Bound
 remainder_bound l m unbounded = unbounded
 remainder_bound l m (bounded a b s k) = limited (nat_lt (m * 2 ^ 32) l.sizes) (bounded (pos 0) (pos (m * 2 ^ 32)) s k)
 
--- ends that count 2^-56, at the scale: two units more
+-- endpoints in units of 2^-56, at the scale: two units more
 unfoldable pub spanned_bound : Limits → Bound → Bound
 spanned_bound l unbounded = unbounded
 spanned_bound l (bounded a b s k) = limited (nat_lt (range_size a b) l.sizes) (bounded a b s (k + 2 * l.unit))
@@ -295,7 +295,7 @@ cosine_extent a b =
     cond (lie_inside (octant_at (quarter_later a)) (quarter_later a) (quarter_later b))
     (inside_extent (octant_at (quarter_later a)) (quarter_later a) (quarter_later b)) (cosine_near_none (range_size a b))
 
--- a sine of these values, as ends that count 2^-56: a 57th of the width, and 36 parts
+-- a sine of these values, as endpoints in units of 2^-56: a 57th of the width, and 36 parts
 abbrev pub spans_over : Extent → (s k : ℕ) → Bound
 spans_over e s k = bounded e.least e.greatest (ceil_div s 56) (ceil_div k 56 + 36 * 2 ^ 8)
 
@@ -309,7 +309,7 @@ unfoldable pub cosine_spans : Bound → Bound
 cosine_spans unbounded = unbounded
 cosine_spans (bounded a b s k) = limited (nat_lt (range_size a b) (2 ^ 95)) (spans_over (cosine_extent a b) s k)
 
--- pi between its neighbours that count 2^-56
+-- pi between its neighbours in units of 2^-56
 abbrev pub pi_spans : Bound
 pi_spans = bounded (pos 13493037704) (pos 13493037705) 0 (2 ^ 8)
 
@@ -330,7 +330,7 @@ least_arc a = int_max (int_max (neg_ℤ (pos (90 * 2 ^ 32))) (arc_from (negsuc 4
 abbrev pub greatest_arc : ℤ → ℤ
 greatest_arc b = neg_ℤ (least_arc (neg_ℤ b))
 
--- an arctangent, as ends that count 2^-56: 57.3 times the width, and 64 parts
+-- an arctangent, as endpoints in units of 2^-56: 57.3 times the width, and 64 parts
 unfoldable pub arc_spans : Bound → Bound
 arc_spans unbounded = unbounded
 arc_spans (bounded a b s k) = bounded (least_arc a) (greatest_arc b) (ceil_div (s * 573) 9) (ceil_div (k * 573) 9 + 64 * 2 ^ 8)
@@ -389,7 +389,7 @@ at_32 n = record { num = n; below = 2 ^ 32 - 1 }
 abbrev pub breadth : (w slope slack : ℕ) → Fraction
 breadth w s k = record { num = pos (s * w + k * 2 ^ 40); below = 2 ^ 104 - 1 }
 
--- two ends that keep a bound, for moments of width w
+-- two endpoints that keep a bound, for moments of width w
 pub record Spans (low high : ℤ) (slope slack w : ℕ) (lo hi : Fraction) : Type 0 where
   pub ordered : lo ≤F hi
   pub above : at_32 low ≤F lo
@@ -402,7 +402,7 @@ IsNarrow w unbounded i = Unit {0}
 IsNarrow w (bounded a b s k) everything = ⊥
 IsNarrow w (bounded a b s k) (between lo hi) = Spans a b s k w lo hi
 
--- the limits of ends in 64 bits at scale 2^-36
+-- the limits of endpoints in 64 bits at scale 2^-36
 abbrev pub limits_36 : Limits
 limits_36 = record { unit = 2 ^ 28; sizes = 2 ^ 58; products = 2 ^ 86; constants = 2 ^ 90; factors = 2 ^ 122 }
 

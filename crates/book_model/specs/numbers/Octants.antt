@@ -1,5 +1,5 @@
 -- The sine, the cosine and the tangent of an interval of degrees. Octant k is the closed interval from 45 k to
--- 45 (k + 1). Each octant that an interval meets gives the sines at the two ends of the common part, and the sine
+-- 45 (k + 1). Each octant that an interval meets gives the sines at the two endpoints of the common part, and the sine
 -- is the hull of all these.
 use Rattle.std.specs.Prelude.{ℕ, zero, suc, unsigned_abs, neg_ℤ, ℤ, pos, ◌+ℤ◌, ◌-ℤ◌, ◌*ℤ◌}
 use Rattle.exact_math.specs.Fraction.{Fraction, whole, plus, opposite, times, smaller, larger, floor_quotient, floor}
@@ -39,7 +39,7 @@ octant_of_turn k = unsigned_abs (k -ℤ (pos 8 *ℤ floor_quotient k 7))
 unfoldable pub sine_at : ℕ → ℤ → Fraction → Interval
 sine_at n k x = sine_into n (octant_of_turn k) (plus x (opposite (octant_edge k)))
 
--- the sines at the two ends of the part of a .. b in octant k
+-- the sines at the two endpoints of the part of a .. b in octant k
 unfoldable pub sine_in : ℕ → Fraction → Fraction → ℤ → Interval
 sine_in n a b k = hull (sine_at n k (larger (octant_edge k) a)) (sine_at n k (smaller (octant_edge (k +ℤ pos 1)) b))
 

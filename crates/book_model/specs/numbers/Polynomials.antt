@@ -1,4 +1,4 @@
--- Polynomials and waves, as expressions.
+-- Polynomials and periodic terms, as expressions.
 use Rattle.std.specs.Prelude.{ℕ, zero, suc, pos, List, length, slice_index_or}
 use Rattle.exact_math.specs.Fraction.{Fraction, whole, power as fraction_power}
 use Rattle.book_model.specs.declared.frac.Frac.{Frac}
@@ -37,22 +37,22 @@ polynomial_at_to cs c (suc n) = add (polynomial_at_to cs c n) (scale (fraction_o
 unfoldable pub polynomial_at : List Frac → Fraction → Expression
 polynomial_at cs c = polynomial_at_to cs c (length cs)
 
--- the phase of a wave and its rate times x, which are in centuries
+-- the phase of a periodic term and its rate times x, which are in centuries
 abbrev pub angle_of_wave : Wave → Expression → Expression
 angle_of_wave v x = add (constant (ten_millionths v.phase)) (scale (ten_millionths v.rate) x)
 
--- the size of a wave times the sine of its angle
+-- the size of a periodic term times the sine of its angle
 unfoldable pub wave_of : Expression → Wave → Expression
 wave_of x v = scale (whole v.size) (sine (angle_of_wave v x))
 
--- the size of a wave times the sine of its angle, which is quadratic
+-- the size of a periodic term times the sine of its angle, which is quadratic
 unfoldable pub quadratic_wave_of : QuadraticWave → Expression → Expression
 quadratic_wave_of v x = scale (fraction_of v.size) (sine (quadratic_of v.angle x))
 
--- what stands for a wave past the last
+-- what stands for a periodic term past the last
 abbrev pub no_wave : Wave
 no_wave = record { size = pos 0; phase = pos 0; rate = pos 0 }
 
--- the sum of the waves
+-- the sum of the periodic terms
 abbrev pub waves_of : List Wave → Expression → Expression
 waves_of vs x = terms_of (wave_of x) no_wave vs

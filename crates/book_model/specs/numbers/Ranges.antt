@@ -9,7 +9,7 @@ abbrev pub IsBetween : (lo hi : ℤ) → Interval → Type 0
 IsBetween lo hi everything = Unit {0}
 IsBetween lo hi (between a b) = (whole lo ≤F a) × (b ≤F whole hi)
 
--- a moment lies in the years of which there is a correction, or nothing is said of it
+-- a moment lies in the years of which ΔT is known, or nothing is said of it
 abbrev pub IsInTable : Interval → Type 0
 IsInTable i = IsBetween TABLE_START TABLE_END i
 

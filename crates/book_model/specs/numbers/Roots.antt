@@ -36,15 +36,15 @@ natural_part (negsuc k) = zero
 abbrev pub not_negative : Fraction → Fraction
 not_negative a = record { num = pos (natural_part a.num); below = a.below }
 
--- the lower end of the root, of a in 2^-4n rounded down
+-- the lower endpoint of the root, of a in 2^-4n rounded down
 unfoldable pub root_low : ℕ → Fraction → Fraction
 root_low n a = on_grid n (root_below ((natural_part a.num * 16 ^ n) / suc a.below))
 
--- the upper end, of a in 2^-4n rounded up
+-- the upper endpoint, of a in 2^-4n rounded up
 unfoldable pub root_high : ℕ → Fraction → Fraction
 root_high n a = on_grid n (root_above ((natural_part a.num * 16 ^ n + a.below) / suc a.below))
 
--- the root of an interval: a negative end counts as 0
+-- the root of an interval: a negative endpoint counts as 0
 unfoldable pub root_of : ℕ → Interval → Interval
 root_of n everything = everything
 root_of n (between a b) = between (root_low n a) (root_high n b)

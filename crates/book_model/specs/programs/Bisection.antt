@@ -27,8 +27,8 @@ has_passed_of v y = bind (angle_past_of v y) λ r. compare Bisect r (integer (po
 unfoldable pub has_passed_at : (Expression → Program Expression) → (target x : Expression) → Program Bool
 has_passed_at f y x = bind (f x) λ v. has_passed_of v y
 
--- Bisection by so many turns at most, while the ends aren't near: the half is kept in which the function passes the angle. The
--- answer is the middle of the last ends; where more turns would be made it is void.
+-- Bisection by so many iterations at most, while the bounds aren't near: the half is kept in which the function passes
+-- the angle. The answer is the middle of the last bounds; where more iterations would be made it is void.
 unfoldable pub bisected_of : ℕ → (Expression → Program Expression) → (target low high : Expression) → Program Expression
 bisected_of zero f y l u = bind (are_near_of l u) λ near. if near then answer (middle_of l u) else void BisectEnd
 bisected_of (suc more) f y l u =

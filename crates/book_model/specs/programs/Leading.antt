@@ -10,32 +10,32 @@ use Rattle.book_model.specs.declared.fail.Fail.TheVariants.{Undecided as undecid
 use Rattle.book_model.specs.numbers.Expressions.{Expression, World, argument}
 use Rattle.book_model.specs.programs.Programs.{Grid, cell_at, compare_at, Program, Sides, one_side, two_sides, Reply, Run, answered, voided, undecided, decided, run}
 
--- a number that counts 2^-56
+-- a number in units of 2^-56
 abbrev pub units_of_56 : ℤ → Fraction
 units_of_56 n = record { num = n; below = 2 ^ 56 - 1 }
 
--- the ends that stand for no bounds: the least and the greatest number of 128 bits
+-- the bounds that stand for an unbounded test: the least and the greatest number of 128 bits
 pub record AreNoBounds (lo hi : ℤ) : Type 0 where
   pub least : lo ≡ negsuc (2 ^ 127 - 1)
   pub greatest : hi ≡ pos (2 ^ 127 - 1)
 
--- two numbers that count 2^-56 are the ends of an interval
+-- two numbers in units of 2^-56 are the bounds of an interval
 pub data AreEnds : ℤ → ℤ → Interval → Type 0 where
   bounds : {lo hi : ℤ} {a b : Fraction} → units_of_56 lo ≈ a → units_of_56 hi ≈ b → AreEnds lo hi (between a b)
   no_bounds : {lo hi : ℤ} → AreNoBounds lo hi → AreEnds lo hi everything
 
--- A cell test is open at the ends of an enclosure: the enclosure lies in no one cell, and these are its ends; or
+-- A cell test is undecided at the bounds of an enclosure: the enclosure lies in no one cell, and these are its bounds; or
 -- its cell is a number outside 64 bits.
 pub data IsOpenCell (g : Grid) (i : Interval) (lo hi : ℤ) : Type 0 where
   between_cells : cell_at g i ≡ None → AreEnds lo hi i → IsOpenCell g i lo hi
   too_far : (q : ℤ) → cell_at g i ≡ Some q → ¬ FitsSigned w64 q → AreNoBounds lo hi → IsOpenCell g i lo hi
 
--- A comparison is open at the ends of two enclosures: neither answer is decided, and these are the ends of their hull.
+-- A comparison is undecided at the bounds of two enclosures: neither answer is decided, and these are the bounds of their hull.
 pub record IsOpenComparison (i j : Interval) (lo hi : ℤ) : Type 0 where
   pub open_there : compare_at i j ≡ None
   pub ends : AreEnds lo hi (hull i j)
 
--- a test is open for enclosures that hold its sides
+-- a test is undecided for enclosures that hold its sides
 pub data IsOpen : Sides → ℤ → ℤ → Type 0 where
   open_cell : {g : Grid} {i : Interval} {lo hi : ℤ} (j : Interval) → i ⊆ j → IsOpenCell g j lo hi → IsOpen (one_side g i) lo hi
   open_comparison : {i j : Interval} {lo hi : ℤ} (k l : Interval) → i ⊆ k → j ⊆ l → IsOpenComparison k l lo hi → IsOpen (two_sides i j) lo hi
@@ -50,7 +50,7 @@ next_turn b = min (b + 1) (2 ^ 32 - 1)
 
 -- What a result says of a run, where the count of tests was b at its beginning and is a at the end: an answer is
 -- the leaf of the same tests with the same answers, an undecided test is one that the run makes, with its number
--- and within its ends, and a void is the run's. The count has grown by the tests that were made.
+-- and within its bounds, and a void is the run's. The count has grown by the tests that were made.
 pub data Reports {A T : Type 0} (R : A → T → Type 0) : Run A → ℕ → ℕ → Result T Fail → Type 0 where
   passes : {s : Site} {i : Sides} {r : Reply} {rest : Run A} {b a : ℕ} {t : Result T Fail} → Reports R rest (next_turn b) a t
       → Reports R (decided s i r rest) b a t

@@ -69,7 +69,7 @@ pub data Reply : Type 0 where
   in_cell : ℤ → Reply
   is_less : Bool → Reply
 
--- a run: its tests in order, and what it ends in. An open test ends it.
+-- a run: its tests in order, and what it ends in. An undecided test ends it.
 pub data Run (A : Type 0) : Type 0 where
   answered : A → Run A
   voided : Site → Run A

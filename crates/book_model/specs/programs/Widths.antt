@@ -1,4 +1,4 @@
--- How wide the results of calls are: what an answer keeps, and how far apart the ends of an open test lie at most.
+-- How wide the results of calls are: what an answer keeps, and how far apart the bounds of an undecided test lie at most.
 use Rattle.std.specs.Prelude.{◌≡◌, ℕ, ◌*◌, ◌^◌, ◌≤◌, ℤ, pos, neg_ℤ, ◌+ℤ◌, ◌-ℤ◌, ◌*ℤ◌, ◌≤ℤ◌, Result, Ok, Err, IfOk, IfErr}
 use Rattle.exact_math.specs.Interval.{Interval}
 use Rattle.book_model.specs.declared.site.Site.{Site}
@@ -10,18 +10,19 @@ use Rattle.book_model.specs.declared.fact.TheConstants.{FIRST_FACT_DAY, LAST_FAC
 use Rattle.book_model.specs.declared.time_tables.TheConstants.{TABLE_START, TABLE_END, FIRST_CENTURY, LAST_CENTURY, RECENT_START, FIRST_RECENT_HALF_CENTURY}
 use Rattle.book_model.specs.numbers.Bounds.{Bound, bounded, IsNarrow}
 
--- how far apart the ends of an open test lie at most at a site, in 2^-64: a 2^24th at the tests of a bisection, and a 2^20th elsewhere
+-- how far apart the bounds of an undecided test lie at most at a site, in 2^-64: a 2^24th at the tests of a bisection, and a
+-- 2^20th elsewhere
 abbrev pub most_apart : Site → ℕ
 most_apart Bisect = 2 ^ 40
 most_apart BisectEnd = 2 ^ 40
 most_apart s = 2 ^ 44
 
--- a failure is close: it is no test, or its ends, which count 2^-56, are no further apart than that
+-- a failure is close: it is no test, or its bounds, in units of 2^-56, are no further apart than that
 pub data IsClose : Fail → Type 0 where
   close_void : {s : Site} → IsClose (Void s)
   close_test : {u : Undecided} → ((u.hi -ℤ u.lo) *ℤ pos 256) ≤ℤ pos (most_apart u.site) → IsClose (undecided_at u)
 
--- an interval lies from low to high, which count 2^-32, and is at most so wide, in 2^-64
+-- an interval lies from low to high, in units of 2^-32, and is at most so wide, in 2^-64
 pub record IsWithin (low high : ℤ) (width : ℕ) (i : Interval) : Type 0 where
   pub kept : IsNarrow 0 (bounded low high 0 width) i
 
@@ -33,7 +34,7 @@ IsAbout size width i = IsWithin (neg_ℤ (pos size)) (pos size) width i
 abbrev pub IsMoment : ℕ → Interval → Type 0
 IsMoment v i = IsAbout (2 ^ 58) v i
 
--- a correction: within a fourth of a day of 0, and at most so wide
+-- ΔT: within a fourth of a day of 0, and at most so wide
 abbrev pub IsCorrection : ℕ → Interval → Type 0
 IsCorrection v i = IsAbout (2 ^ 30) v i
 
@@ -46,11 +47,11 @@ IsFrom first last v i = IsWithin (first *ℤ pos (2 ^ 32)) (last *ℤ pos (2 ^ 3
 abbrev pub IsSince : (first : ℤ) → (width : ℕ) → Interval → Type 0
 IsSince first v i = IsWithin (first *ℤ pos (2 ^ 32)) (pos (2 ^ 58)) v i
 
--- a moment of the years of which there are corrections, moved by at most so many days, and at most so wide
+-- a moment of the years of which ΔT is known, moved by at most so many days, and at most so wide
 abbrev pub IsDated : (margin width : ℕ) → Interval → Type 0
 IsDated margin v i = IsFrom (TABLE_START -ℤ pos margin) (TABLE_END +ℤ pos margin) v i
 
--- ---- the days of which there are corrections
+-- ---- the days of which ΔT is known
 -- where they begin and end, so many days beside them, in 2^-32
 abbrev pub table_from : (margin : ℕ) → ℤ
 table_from margin = (TABLE_START -ℤ pos margin) *ℤ pos (2 ^ 32)

@@ -1,4 +1,4 @@
--- Polynomials at a whole number, the rows of the dynamical time correction, and the tests of a year and of a rounding.
+-- Polynomials at a whole number, the rows of ΔT (dynamical less universal time), and the tests of a year and of a rounding.
 -- Reingold and Dershowitz, Calendrical Calculations, chapter 14, ephemeris correction.
 use Rattle.std.specs.Prelude.{ℕ, zero, suc, ◌&&◌, Bool, if◌then◌else◌, ℤ, pos, ◌-ℤ◌, ◌*ℤ◌, List, [], ◌∷◌, length, map, slice_index_or, int_le, Option, Some, None}
 use Rattle.book_model.specs.declared.correction_rows.CorrectionForm.{CorrectionForm}
@@ -37,8 +37,8 @@ abbrev pub is_between : ℤ → ℤ → ℤ → Bool
 is_between low high z = int_le low z && int_le z high
 
 -- ---- the rows of the table
--- a row: its years, how its polynomial is taken, the coefficients, how many units of a scale its corrections are wide at most, and
--- the first version of printed files that has it
+-- a row: its years, how its polynomial is taken, the coefficients, how many units of a scale an enclosure of its ΔT is wide
+-- at most, and the first version of certificates that has it
 pub record Correction : Type 0 where
   pub first : ℤ
   pub last : ℤ

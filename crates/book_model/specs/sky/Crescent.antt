@@ -1,6 +1,6 @@
--- The first sight of the crescent by Shaukat's criterion: when the sun stands 4.5 degrees below the horizon, the arc of light
--- between moon and sun is at least 10.6 degrees and the moon's altitude above 4.1. Angles are in degrees, moments in days (R.D.).
--- Reingold and Dershowitz, Calendrical Calculations, chapters 14 and 18.
+-- The first visibility of the crescent by Shaukat's criterion: when the sun stands 4.5 degrees below the horizon, the arc of light
+-- (ARCL, the moon's elongation from the sun) is at least 10.6 degrees and the moon's altitude above 4.1. Angles are in degrees,
+-- moments in days (R.D.). Reingold and Dershowitz, Calendrical Calculations, chapters 14 and 18.
 use Rattle.std.specs.Prelude.{Bool, false, not, if◌then◌else◌, ℤ, pos, ◌-ℤ◌, int_le}
 use Rattle.book_model.specs.declared.crescent_tables.TheConstants.{CRESCENT_DEPRESSION, LEAST_ALTITUDE, LEAST_ARC_OF_LIGHT}
 use Rattle.book_model.specs.declared.horizon.Location.{Location}
@@ -86,8 +86,8 @@ meets_at_of p x =
 unfoldable pub visible_of : Location → ℤ → Program Bool
 visible_of p d = bind (evening_of p d) (meets_at_of p)
 
--- ---- the first sight
--- the day from which the first sight is sought: that of the new moon, or, where the crescent of that isn't seen yet, 30 before
+-- ---- the first visibility
+-- the day from which the first visibility is sought: that of the new moon, or, where the crescent of that isn't seen yet, 30 before
 unfoldable pub start_by : ℤ → Bool → ℤ
 start_by m seen = if seen then m else m -ℤ pos 30
 

@@ -92,7 +92,7 @@ pub record IsTrueWith (f : Fact) (v : ℤ) : Type 0 where
 pub record IsVoidAt (f : Fact) (s : Site) : Type 0 where
   pub at_each_depth : (n : ℕ) → DEPTH ≤ n → outcome (run_of n f) ≡ void_at s
 
--- an interval lies between two numbers that count 2^-56
+-- an interval lies between two numbers in units of 2^-56
 abbrev pub LiesFrom : (lo hi : ℤ) → Interval → Type 0
 LiesFrom lo hi i = i ⊆ between (units_of_56 lo) (units_of_56 hi)
 
@@ -117,12 +117,12 @@ pub record MakesNearTest (r : Run ℤ) (u : Undecided) : Type 0 where
 abbrev pub IsOfWholeDay : Kind → ℕ → Type 0
 IsOfWholeDay kind turn = IsTrue (is_of_whole_day (whole_days kind) turn)
 
--- the ends of an open test, which count 2^-56, are at most as far apart as its site allows, in 2^-64
+-- the bounds of an undecided test, in units of 2^-56, are at most as far apart as its site allows, in 2^-64
 abbrev pub AreClose : Undecided → Type 0
 AreClose u = ((u.hi -ℤ u.lo) *ℤ pos 256) ≤ℤ pos (most_apart u.site)
 
--- The fact is near at a test: at every depth from 40 on its run makes this test, whose sides lie within the ends, and the
--- ends are at most a 2^20th apart, or a 2^24th at a test of a bisection. The year of a whole day is never near.
+-- The fact is near at a test: at every depth from 40 on its run makes this test, whose sides lie within the bounds, and
+-- the bounds are at most a 2^20th apart, or a 2^24th at a test of a bisection. The year of a whole day is never near.
 pub record IsNear (f : Fact) (u : Undecided) : Type 0 where
   pub at_each_depth : (n : ℕ) → DEPTH ≤ n → MakesNearTest (run_of n f) u
   pub no_whole_day : u.site ≡ Year → IsOfWholeDay f.kind u.turn → ⊥

@@ -50,14 +50,14 @@ offset_by l a d = add (by_declination (constant l) d) (by_depression (constant l
 unfoldable pub offset_of : Location → (a x : Expression) → Program Expression
 offset_of p a x = bind (declination_of (universal_of (fraction_of p.longitude) x)) λ d. answer (offset_by (fraction_of p.latitude) a d)
 
--- whether it is no sine of an angle, so that the sun doesn't come to the depression
+-- whether it is no sine of an angle, so that the sun doesn't reach the depression
 unfoldable pub is_out_of_reach : Expression → Program Bool
 is_out_of_reach s = compare Offset (integer (pos 1)) (size_of s) answer
 
 unfoldable pub if_reached : Expression → Bool → Program Expression
 if_reached s out = if out then void Offset else answer s
 
--- the offset at a moment; where the sun doesn't come to the depression it is void
+-- the offset at a moment; where the sun doesn't reach the depression it is void
 unfoldable pub reached_offset_of : Location → (a x : Expression) → Program Expression
 reached_offset_of p a x = bind (offset_of p a x) λ s. bind (is_out_of_reach s) (if_reached s)
 
@@ -70,7 +70,7 @@ edge_of Dusk d = add (integer d) (integer (pos 1))
 unfoldable pub or_at_edge : Location → Twilight → Expression → ℤ → Expression → Bool → Program Expression
 or_at_edge p k a d s out = if out then reached_offset_of p a (edge_of k d) else answer s
 
--- the offset at a moment, or at the edge of its day where the sun doesn't come to the depression then
+-- the offset at a moment, or at the edge of its day where the sun doesn't reach the depression then
 unfoldable pub near_offset_of : Location → Twilight → Expression → ℤ → Expression → Program Expression
 near_offset_of p k a d x = bind (offset_of p a x) λ s. bind (is_out_of_reach s) (or_at_edge p k a d s)
 

@@ -23,7 +23,7 @@ use Rattle.book_model.specs.sky.Sun.{sun_of, estimate_of, sun_from_of}
 use Rattle.book_model.specs.sky.Phases.{moon_before_of, moon_from_of}
 use Rattle.book_model.specs.sky.Time.{correction_of_year, zone_on, midnight_of, in_zone_of}
 
--- the correction of a day's year, in milliseconds
+-- ΔT of a day's year, in milliseconds
 unfoldable pub dt_of : ℤ → Program ℤ
 dt_of d =
     bind (year_of (integer d)) λ y.
@@ -145,6 +145,6 @@ term_longitude r spans = modulo (r -ℤ pos 30 *ℤ spans) 360
 unfoldable pub longitude_day_of : Place → (l d : ℤ) → Program ℤ
 longitude_day_of place l d = bind (sun_from_of (integer l) (midnight_of place d)) (day_at place)
 
--- the day at a place on which the sun comes to the first of the longitudes r, r + 30, r + 60 .. once the day d has begun there
+-- the day at a place on which the sun reaches the first of the longitudes r, r + 30, r + 60 .. once the day d has begun there
 unfoldable pub term_day_of : Place → (r d : ℤ) → Program ℤ
 term_day_of place r d = bind (spans_short_of place r d) λ n. longitude_day_of place (term_longitude r n) d

@@ -24,7 +24,7 @@ no_latitude_term = record { elongation = pos 0; sun_anomaly = pos 0; moon_anomal
 unfoldable pub latitude_terms_of : LunarAngles → Expression
 latitude_terms_of a = terms_of (latitude_term_of a) no_latitude_term LATITUDE_TERMS
 
--- what Venus adds, by the angle of its wave and the argument of latitude
+-- what Venus adds, by the angle of its periodic term and the argument of latitude
 unfoldable pub venus_by : (venus argument : Expression) → Expression
 venus_by v f = add (scale (whole VENUS_IN_LATITUDE) (sine (add v f))) (scale (whole VENUS_IN_LATITUDE) (sine (subtract v f)))
 

@@ -38,7 +38,7 @@ site_number site = tag_of site_type site + 1
 unfoldable pub kind_name : Kind → List ℕ
 kind_name kind = option_map_or (λ row. row.1.now) (slice_get KINDS (kind_number kind)) []
 
--- the first version of printed files that has a kind of fact
+-- the first version of certificates that has a kind of fact
 unfoldable pub kind_since : Kind → Version
 kind_since kind = option_map_or (λ row. row.2.2) (slice_get KINDS (kind_number kind)) One
 
@@ -64,7 +64,7 @@ has_place kind place = list_any (λ p. place_number p == place_number place) (pl
 unfoldable pub place_name : Place → List ℕ
 place_name place = option_map_or (λ row. row.1.now) (slice_get PLACES (place_number place)) []
 
--- the first version of printed files that has a place
+-- the first version of certificates that has a place
 unfoldable pub place_since : Place → Version
 place_since place = option_map_or (λ row. row.2.3) (slice_get PLACES (place_number place)) One
 
@@ -84,7 +84,7 @@ last_hours place = option_map_or (λ row. row.2.2) (slice_get PLACES (place_numb
 unfoldable pub site_name : Site → List ℕ
 site_name site = option_map_or (λ row. row.1.now) (slice_get SITES (tag_of site_type site)) []
 
--- the first version of printed files that has a site
+-- the first version of certificates that has a site
 unfoldable pub site_since : Site → Version
 site_since site = option_map_or (λ row. row.2) (slice_get SITES (tag_of site_type site)) One
 

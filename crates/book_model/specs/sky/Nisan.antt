@@ -1,5 +1,5 @@
 -- The first day of Nisan by observation: of the month about the spring equinox, by when the sun sets on the day of the equinox and
--- by the first sight of the crescent. Moments are in days (R.D.) of universal time. Reingold and Dershowitz, Calendrical
+-- by the first visibility of the crescent. Moments are in days (R.D.) of universal time. Reingold and Dershowitz, Calendrical
 -- Calculations, chapter 18.
 use Rattle.std.specs.Prelude.{Bool, if◌then◌else◌, ℤ, pos, ◌+ℤ◌, ◌-ℤ◌, int_le}
 use Rattle.book_model.specs.declared.horizon.Location.{Location}
@@ -12,7 +12,7 @@ use Rattle.book_model.specs.programs.Programs.{Program, answer, cell, compare, b
 use Rattle.book_model.specs.programs.Searches.{first_day_from}
 use Rattle.book_model.specs.sky.Sun.{sun_from_of}
 
--- ---- the first sight from a day on
+-- ---- the first visibility from a day on
 -- the day from which it is sought: 29 days after the last new moon where the crescent of that is past the day s, else the day
 unfoldable pub sought_from : (s m : ℤ) → Bool → ℤ
 sought_from s m seen = if seen then m +ℤ pos 29 else s

@@ -1,6 +1,6 @@
--- The equation of time, apparent time, true noon at Tehran and apparent midnight at Paris. Angles are in degrees, moments and spans in
--- days; c is in centuries. Reingold and Dershowitz, Calendrical Calculations, chapter 14; the place of noon is that of chapter 15, the
--- place of midnight that of chapter 17.
+-- The equation of time, apparent time, true noon at Tehran and apparent midnight at Paris. Angles are in degrees, moments and
+-- durations in days; c is in centuries. Reingold and Dershowitz, Calendrical Calculations, chapter 14; the place of noon is that of
+-- chapter 15, the place of midnight that of chapter 17.
 use Rattle.std.specs.Prelude.{◌≡◌, ℤ, pos, ◌+ℤ◌, ◌-ℤ◌, ◌≤ℤ◌, Some}
 use Rattle.exact_math.specs.Fraction.{Fraction}
 use Rattle.book_model.specs.declared.sun_tables.TheConstants.{DEGREE_IN_DAYS, ECCENTRICITY, FIVE_QUARTERS, FOUR, MEAN_SUN, MINUS_HALF, OBLIQUITY, PARIS_LONGITUDE, PERSIAN_NOON_LONGITUDE, SOLAR_ANOMALY, TWO}

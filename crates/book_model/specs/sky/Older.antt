@@ -1,5 +1,5 @@
--- The formulas of facts as an earlier version of printed files had them: over its rows of corrections, and of its days. The table of
--- corrections is no argument of the formulas: a formula over some rows alone is the formula in which the other years are void.
+-- The formulas of facts as an earlier version of certificates had them: over its rows of ΔT, and of its days. The table of
+-- values of ΔT is no argument of the formulas: a formula over some rows alone is the formula in which the other years are void.
 use Rattle.std.specs.Prelude.{◌≡◌, ℕ, ℤ, Bool, true, false, not, ◌&&◌, if◌then◌else◌, List}
 use Rattle.std.specs.List.{filter, list_any}
 use Rattle.book_model.specs.declared.fact.Fact.{Fact}
@@ -27,7 +27,7 @@ over_years known (void s) = void s
 over_years known (cell s g x next) = cell s g x (λ q. if are_years g && not (known q) then void Year else over_years known (next q))
 over_years known (compare s x y next) = compare s x y (λ t. over_years known (next t))
 
--- the rows of corrections that a version had
+-- the rows of ΔT that a version had
 abbrev pub rows_in : Version → List Correction
 rows_in version = filter (λ row. has_since version row.since) corrections
 
@@ -35,7 +35,7 @@ rows_in version = filter (λ row. has_since version row.since) corrections
 abbrev pub have_year : List Correction → ℤ → Bool
 have_year rows y = list_any (λ row. is_between row.first row.last y) rows
 
--- whether a version had a correction of a year
+-- whether a version had ΔT of a year
 abbrev pub has_correction : Version → ℤ → Bool
 has_correction version y = have_year (rows_in version) y
 
@@ -58,11 +58,11 @@ pub record AreComposed (known : ℤ → Bool) (A : Type 0) : Type 0 where
   pub numbers : IsComposed known A ℤ
   pub expressions : IsComposed known A Expression
 
--- the correction of a year by the rows that a version had; in a year that none of them has there is no formula
+-- ΔT of a year by the rows that a version had; in a year that none of them has there is no formula
 abbrev pub correction_by_version : Version → ℤ → Program Expression
 correction_by_version version y = by_row y (row_in (rows_in version) y)
 
--- the correction of a day's year by these rows, in milliseconds
+-- ΔT of a day's year by these rows, in milliseconds
 abbrev pub dt_by_version : Version → ℤ → Program ℤ
 dt_by_version version d =
     bind (year_of (integer d)) λ y.

@@ -1,4 +1,4 @@
--- Numbers at a fixed decimal scale, in which a correction is computed exactly.
+-- Numbers at a fixed decimal scale, in which ΔT is computed exactly.
 use Rattle.std.specs.Prelude.{ℕ, zero, suc, ◌*◌, ◌^◌, ◌-◌, ℤ, pos, List, slice_index_or}
 use Rattle.exact_math.specs.Fraction.{Fraction, ◌≈◌, whole, plus, times}
 use Rattle.exact_math.specs.Interval.{Interval, everything, between}

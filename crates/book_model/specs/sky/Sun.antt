@@ -1,6 +1,6 @@
 -- The apparent longitude of the sun, the obliquity of the ecliptic, about when the sun was last at a longitude, and when it is next
 -- at one.
--- Angles are in degrees, moments and spans in days; c is in centuries.
+-- Angles are in degrees, moments and durations in days; c is in centuries.
 -- Reingold and Dershowitz, Calendrical Calculations, chapter 14.
 use Rattle.std.specs.Prelude.{pos, ◌-◌, ◌^◌}
 use Rattle.exact_math.specs.Fraction.{Fraction}
@@ -21,7 +21,7 @@ nutation_of c = add (quadratic_wave_of NODE_NUTATION c) (quadratic_wave_of SOLAR
 unfoldable pub aberration_of : Expression → Expression
 aberration_of c = subtract (scale (ten_millionths ABERRATION.size) (cosine (angle_of_wave ABERRATION c))) (constant (fraction_of MEAN_ABERRATION))
 
--- the unit of the sun's waves, 0.000005729577951308232
+-- the unit of the sun's periodic terms, 0.000005729577951308232
 abbrev pub sun_unit : Fraction
 sun_unit = record { num = pos 5729577951308232; below = 10 ^ 21 - 1 }
 

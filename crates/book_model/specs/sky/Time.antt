@@ -41,7 +41,7 @@ by_row y (Some row) = answer (correction_by row.form row.coefficients y)
 unfoldable pub correction_of_year : ℤ → Program Expression
 correction_of_year y = by_row y (row_of_year y)
 
--- the correction of a moment's year
+-- ΔT of a moment's year
 unfoldable pub correction_at : Expression → Program Expression
 correction_at x = bind (year_of x) λ y. correction_of_year y
 

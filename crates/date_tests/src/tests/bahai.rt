@@ -52,7 +52,7 @@ fn date_without_its_year(alloc: Global) -> (Result<BahaiDate, Stop>, usize) {
     date_from_listed(alloc, &facts, &[739_695, 740_061], 739_695)
 }
 
-/// The date of a day by values at their ends.
+/// The date of a day by values at their bounds.
 fn date_by_ends(alloc: Global) -> (Result<BahaiDate, Stop>, usize) {
     let facts = [
         bahai_year_on(0),
@@ -73,7 +73,7 @@ fn date(year: u8, month: u8, day: u8) -> BahaiDate {
     }
 }
 
-/// The date of values at their ends.
+/// The date of values at their bounds.
 const FAR: BahaiDate = BahaiDate {
     major: -80,
     cycle: 2,

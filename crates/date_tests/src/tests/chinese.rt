@@ -37,7 +37,7 @@ impl<'a> Oracle for Counting<'a> {
     }
 }
 
-/// What a call comes to, the number of facts that it asked, and how often it asked.
+/// The result of a call, the number of facts that it asked, and how often it asked.
 type Counted<T> = (Result<T, Stop>, usize, usize);
 
 /// The date of a day over a table.
@@ -151,7 +151,7 @@ fn date_without_its_month(alloc: Global) -> Counted<ChineseDate> {
     )
 }
 
-/// The same day by values at their ends.
+/// The same day by values at their bounds.
 fn date_by_ends(alloc: Global) -> Counted<ChineseDate> {
     let facts = [
         solstice_on(738_926),

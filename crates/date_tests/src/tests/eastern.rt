@@ -9,7 +9,7 @@ use oracle_core::{Listed, Oracle};
 use std::alloc::Global;
 use std::test::Fail;
 
-/// What a line comes to over facts of January 1985 in Hanoi and of February 1985 in Beijing, and how many of them are asked: the
+/// The result of a line over facts of January 1985 in Hanoi and of February 1985 in Beijing, and how many of them are asked: the
 /// year of Hanoi began a month before that of Beijing.
 fn in_1985(alloc: Global, line: &str) -> Result<(Resolved, usize), Fail> {
     let facts = [

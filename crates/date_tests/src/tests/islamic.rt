@@ -69,7 +69,7 @@ fn dates_follow_the_table(rt: HostRuntime) {
     }
     // A month is asked by its middle.
     assert!(rt; first_of_ramadan(rt.alloc()) == Ok(738_957));
-    // A fact that is missing stops.
+    // At a fact that is missing a call returns early.
     let missing = Stop::Missing(phasis_on(738_957));
     let found = date_from_listed(rt.alloc(), 738_957, 738_958, 738_957);
     assert!(rt; found == (Err(missing), 0));

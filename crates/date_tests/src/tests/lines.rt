@@ -1,4 +1,4 @@
-//! Lines of an input, what they ask, and what that comes to over oracles with small lists. The rows under `tests/rows` have many
+//! Lines of an input, what they ask, and the results over oracles with small lists. The rows under `tests/rows` have many
 //! lines more, for each rule.
 ghost use Rattle.std.specs.Prelude.{◌≡◌, IsTrue, length};
 ghost use Rattle.oracle_core.specs.Pairs.{are_distinct, AreFactValues};
@@ -28,7 +28,7 @@ fn lines_end_with_line_feeds(rt: HostRuntime) -> Result<(), Fail> {
     Ok(())
 }
 
-/// The correction of a date.
+/// ΔT of a date.
 fn on(from: FromWord, count: u8, values: [i32; 5]) -> Request {
     Request {
         from,
@@ -37,7 +37,7 @@ fn on(from: FromWord, count: u8, values: [i32; 5]) -> Request {
     }
 }
 
-/// Lines, with the calendar and the fields of a date whose correction they ask.
+/// Lines, with the calendar and the fields of a date whose ΔT they ask.
 const LINES: [(&str, FromWord, u8, [i32; 5]); 3] = [
     (
         " \tgregorian\t 02024-002-0029\t\tdt \t",
@@ -95,7 +95,7 @@ fn a_line_is_a_request_or_breaks_a_rule(rt: HostRuntime) {
     assert!(rt; read_words(unknown, Version::One) == Err(Rule::Calendar));
 }
 
-/// Requests of a correction, and the rule of a version that they break.
+/// Requests of ΔT, and the rule of a version that they break.
 #[rattlefmt::skip]
 const REQUESTS: [(FromWord, [i32; 5], Version, Option<Rule>); 10] = [
     (FromWord::Gregorian, [2024, 2, 29, 0, 0], Version::One, None),
@@ -122,7 +122,7 @@ fn a_request_breaks_the_rule_of_its_line(rt: HostRuntime) {
     }
 }
 
-/// Dates just outside and at the ends of what each version answers: of version 2 the first date without an answer before its
+/// Dates just outside and at the bounds of what each version answers: of version 2 the first date without an answer before its
 /// range, and its first date; the same of version 1, whose range lies within; then the last ones likewise.
 #[rattlefmt::skip]
 const ENDS: [(&str, [&str; 8]); 9] = [
@@ -149,7 +149,7 @@ const ANSWERED: [(bool, bool); 8] = [
     (false, false),
 ];
 
-/// Dates at the ends of what version 2 answers in the calendars that it alone has, each with whether it is answered.
+/// Dates at the bounds of what version 2 answers in the calendars that it alone has, each with whether it is answered.
 #[rattlefmt::skip]
 const LATER_ENDS: [(&str, bool); 12] = [
     ("french 1-1-1", true),
@@ -265,7 +265,7 @@ pub fn resolved(to: ToWord, count: u8, values: [i32; 5]) -> Resolved {
     Resolved::Shown(to, Fields { count, values })
 }
 
-/// What a line comes to over these facts, and how many of them are asked.
+/// The result of a line over these facts, and how many of them are asked.
 pub fn resolved_over(
     alloc: Global,
     line: &str,
@@ -295,7 +295,7 @@ fn lines_ask_the_facts_that_they_need(rt: HostRuntime) -> Result<(), Fail> {
     let correction = (resolved(ToWord::Dt, 1, [73_871, 0, 0, 0, 0]), 1);
     let found = resolved_over(alloc, "gregorian 2024-02-10 dt", one, &facts, &values)?;
     assert!(rt; found == correction);
-    // A missing fact stops.
+    // At a missing fact a call returns early.
     let mut oracle = Listed::new(alloc, &[], &[]);
     let request = read_line(b"fixed 738926 dt", one).map_err(|_| "a line is refused")?;
     let asked = (resolve(&mut oracle, &request, one), oracle.ask(fact));

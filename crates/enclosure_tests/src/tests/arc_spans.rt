@@ -73,7 +73,7 @@ fn an_arctangent_is_hardly_wider_than_its_degrees_a_radian(rt: HostRuntime) {
 }
 
 /// Whether an enclosure goes from below a number, given as its floor at 2⁻⁵⁶, to above a greater one, and by less than
-/// three units further at both ends together.
+/// three units further at both endpoints together.
 fn is_from_to(found: Coarse, low: i128, high: i128) -> bool {
     let Some(span) = found.span() else {
         return false;
@@ -86,7 +86,7 @@ fn is_from_to(found: Coarse, low: i128, high: i128) -> bool {
     }
 }
 
-/// Ranges of numbers, and the arctangents of both ends, as floors at 2⁻⁵⁶.
+/// Ranges of numbers, and the arctangents of both endpoints, as floors at 2⁻⁵⁶.
 #[rattlefmt::skip]
 const ARCS: [(i64, i64, i128, i128); 10] = [
     (0, 1, 0, 3_242_591_731_706_757_120),

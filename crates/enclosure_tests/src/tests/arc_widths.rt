@@ -4,12 +4,12 @@ use arc_series::arcsin_deg;
 use encl_core::{Enclosure, Span};
 use fix_fine::Fine;
 
-/// How far apart two ends are.
+/// How far apart two endpoints are.
 fn width_of(span: Span) -> Option<i128> {
     span.hi.checked_sub(span.lo)
 }
 
-/// Whether the arcsine of a span within -1/2..1/2 holds those of its ends and is at most 78 times as wide, and 2⁻⁴².
+/// Whether the arcsine of a span within -1/2..1/2 holds those of its endpoints and is at most 78 times as wide, and 2⁻⁴².
 fn is_narrow(numbers: Span) -> bool {
     let low = arcsin_deg(Fine::from_span(Span {
         lo: numbers.lo,

@@ -99,7 +99,7 @@ const FINE: [(Of, i128, u64, i128, i128); 27] = [
     (Of::Cosine, 1, 1, 0, 700),
 ];
 
-/// Asserts arcs over enclosures of a kind, whose widths count so many 2⁻⁵⁶.
+/// Asserts arcs over enclosures of a kind, whose widths are so many times 2⁻⁵⁶.
 fn assert_arcs<E: Enclosure>(rt: &impl Abort, rows: &[(Of, i128, u64, i128, i128)], unit: i128) {
     for (of, num, den, there, most) in rows {
         let found = arc(*of, fractions::<E>((*num, *num, *den)));

@@ -1,4 +1,4 @@
-//! Tests of enclosures of each kind: what is decided, and the ends that open tests name.
+//! Tests of enclosures of each kind: what is decided, and the endpoints that undecided tests name.
 use super::operations::{EVERY, Ends, Fractions, fractions, range};
 use super::rough::Rough;
 use book_model::{Fail as FormulaFail, Site, Undecided};
@@ -7,7 +7,7 @@ use fix_fine::Fine;
 use std::fmt::Debug;
 use std::process::Abort;
 
-/// What a test comes to as a step of a formula.
+/// The result of a test as a step of a formula.
 fn stepped<T: Copy + Drop>(answer: Result<T, Undecided>) -> Result<T, FormulaFail> {
     match answer {
         Ok(found) => Ok(found),

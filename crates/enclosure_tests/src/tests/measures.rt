@@ -1,7 +1,7 @@
-//! How near an enclosure comes to a number from outside.
+//! How close an enclosure is to an expected value.
 use encl_core::{Coarse, Enclosure};
 
-/// A unit of `Coarse`, which counts 2⁻⁵⁶.
+/// A unit of `Coarse`, in units of 2⁻⁵⁶.
 pub const UNIT: i128 = 1_048_576;
 
 /// Whether an enclosure holds a number, given as its floor at 2⁻⁵⁶, and is at most so wide, in 2⁻⁵⁶.

@@ -70,7 +70,7 @@ fn sites_are_numbered_and_named(rt: HostRuntime) {
     }
 }
 
-/// Years, and the corrections that are exact.
+/// Years, and their ΔT, where it is exact.
 #[rattlefmt::skip]
 const CORRECTIONS: [(i64, Option<i128>); 17] = [
     (1700, Some(811_878_084_200)),
@@ -92,7 +92,7 @@ const CORRECTIONS: [(i64, Option<i128>); 17] = [
     (2151, None),
 ];
 
-/// Asserts corrections that are exact.
+/// Asserts values of ΔT that are exact.
 fn assert_corrections(rt: &impl Abort, rows: &[(i64, Option<i128>)]) {
     for (year, units) in rows {
         assert_eq!(rt; plain::exact_correction(*year), *units, "year {year}");

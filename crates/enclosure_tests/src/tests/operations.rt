@@ -51,7 +51,7 @@ fn made<E: Enclosure>(operation: Operation, x: E, y: E) -> Option<E> {
     Some(made)
 }
 
-/// The ends of a range of whole numbers; of every number, where the first is above the second.
+/// The endpoints of a range of whole numbers; of every number, where the first is above the second.
 pub type Ends = (i64, i64);
 
 /// Every number.
@@ -83,7 +83,7 @@ const RANGES: [(Operation, Ends, Ends, Ends); 40] = [
     (Operation::Max, (7, 7), (-8, -8), (7, 7)),
     (Operation::Div, (12, 12), (-3, -3), (-4, -4)),
     (Operation::Div, (-84, -84), (-12, -12), (7, 7)),
-    // Products have the ends of their signs.
+    // Products have the endpoints of their signs.
     (Operation::Mul, (0, 2), (0, 3), (0, 6)),
     (Operation::Mul, (1, 2), (3, 4), (3, 8)),
     (Operation::Mul, (-1, 2), (3, 4), (-4, 8)),
@@ -91,7 +91,7 @@ const RANGES: [(Operation, Ends, Ends, Ends); 40] = [
     (Operation::Mul, (-2, 1), (-3, 4), (-8, 6)),
     (Operation::Mul, (-2, -1), (3, 4), (-8, -3)),
     (Operation::Mul, (-2, -1), (-4, -3), (3, 8)),
-    // Ranges keep their ends.
+    // Ranges keep their endpoints.
     (Operation::Neg, (1, 3), NONE, (-3, -1)),
     (Operation::Sub, (1, 3), (0, 5), (-4, 3)),
     (Operation::Mul, (1, 3), (-2, 5), (-6, 15)),
@@ -106,7 +106,7 @@ const RANGES: [(Operation, Ends, Ends, Ends); 40] = [
     (Operation::Square, (-3, -2), NONE, (4, 9)),
     (Operation::Square, (2, 3), NONE, (4, 9)),
     (Operation::Square, (-2, 1), NONE, (0, 4)),
-    // A negative end counts as 0 under a root.
+    // A negative endpoint counts as 0 under a root.
     (Operation::Root, (4, 9), NONE, (2, 3)),
     (Operation::Root, (-4, 9), NONE, (0, 3)),
     (Operation::Root, (-4, -1), NONE, (0, 0)),
@@ -164,7 +164,7 @@ fn ranges_have_their_ends(rt: HostRuntime) {
     ranges_are_made::<Fine>(&rt, &TOO_LARGE_FOR_FINE);
 }
 
-/// The ends of a range as fractions of one denominator: the lower and the upper numerator, and the denominator.
+/// The endpoints of a range as fractions of one denominator: the lower and the upper numerator, and the denominator.
 pub type Fractions = (i128, i128, u64);
 
 /// What stands for the second enclosure of an operation of one.
@@ -179,7 +179,7 @@ pub fn fractions<E: Enclosure>(ends: Fractions) -> E {
     }
 }
 
-/// What operations make of fractions over `Coarse`: the ends, which count 2⁻⁵⁶; the lower above the upper of every number.
+/// What operations make of fractions over `Coarse`: the endpoints, in units of 2⁻⁵⁶; the lower above the upper of every number.
 #[rattlefmt::skip]
 const COARSE: [(Operation, Fractions, Fractions, i128, i128); 23] = [
     (Operation::MulFrac(1, 2), (7, 7, 1), ZERO, 252_201_579_132_747_776, 252_201_579_132_747_776),
@@ -230,7 +230,7 @@ const FINE: [(Operation, Fractions, Fractions, i128, i128); 11] = [
     (Operation::Same, (i128::MAX, i128::MAX, 1), ZERO, 1, 0),
 ];
 
-/// The same over `Rough`, whose ends are multiples of a 256th.
+/// The same over `Rough`, whose endpoints are multiples of a 256th.
 #[rattlefmt::skip]
 const ROUGH: [(Operation, Fractions, Fractions, i128, i128); 9] = [
     (Operation::Same, (-1, -1, 3), ZERO, -86 << 48, -85 << 48),
@@ -244,7 +244,7 @@ const ROUGH: [(Operation, Fractions, Fractions, i128, i128); 9] = [
     (Operation::ClampUnit, (0, 3, 1), ZERO, 0, 256 << 48),
 ];
 
-/// The span between two ends; none where the lower is above the upper.
+/// The span between two endpoints; none where the lower is above the upper.
 fn span(lo: i128, hi: i128) -> Option<Span> {
     if hi < lo { None } else { Some(Span { lo, hi }) }
 }
@@ -270,7 +270,7 @@ fn fractions_are_rounded_outwards(rt: HostRuntime) {
     fractions_are_made::<Rough>(&rt, &ROUGH);
 }
 
-/// Ranges and their ends, which count 2⁻⁵⁶, over enclosures of each kind; the lower above the upper of every number.
+/// Ranges and their endpoints, in units of 2⁻⁵⁶, over enclosures of each kind; the lower above the upper of every number.
 const SPANS: [(Ends, i128, i128); 5] = [
     ((-1, 2), -72_057_594_037_927_936, 144_115_188_075_855_872),
     ((2, 2), 2 << 56, 2 << 56),
@@ -283,7 +283,7 @@ const SPANS: [(Ends, i128, i128); 5] = [
     (EVERY, 1, 0),
 ];
 
-/// Asserts that ranges have their ends, and are the ranges of these.
+/// Asserts that ranges have their endpoints, and are the ranges of these.
 fn spans_are_ends<E: Enclosure + Debug + PartialEq>(rt: &impl Abort, rows: &[(Ends, i128, i128)]) {
     for (ends, lo, hi) in rows {
         let x = range::<E>(*ends);

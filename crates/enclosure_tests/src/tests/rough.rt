@@ -17,7 +17,7 @@ use rounded_quotients::{ceil_div, floor_div};
 /// How many units of 2⁻³⁶ one of 2⁻⁸ has.
 const GRAIN: i128 = 268_435_456;
 
-/// The ends, each moved outwards to a multiple of 2⁻⁸.
+/// The endpoints, each moved outwards to a multiple of 2⁻⁸.
 fn roughened(ends: Option<Ends<i64>>) -> Option<Ends<i64>>
     ensures { shown_ends ends ⊆ shown_ends result }
 {
@@ -27,7 +27,7 @@ fn roughened(ends: Option<Ends<i64>>) -> Option<Ends<i64>>
     ends_of(lo, hi)
 }
 
-/// An enclosure by two ends that are multiples of 2⁻⁸, rounded outwards; every number, where an end doesn't fit.
+/// An enclosure by two endpoints that are multiples of 2⁻⁸, rounded outwards; every number, where an endpoint doesn't fit.
 #[derive(Clone, Copy, Debug, PartialEq)]
 pub struct Rough {
     ends: Option<Ends<i64>>,

@@ -73,7 +73,7 @@ fn a_search_answers_the_first_day(rt: HostRuntime) {
     }
 }
 
-/// The day doesn't fit in the ends of these kinds.
+/// The day doesn't fit in the endpoints of these kinds.
 #[test]
 fn a_search_fails_where_its_test_does(rt: HostRuntime) {
     let open = Undecided {

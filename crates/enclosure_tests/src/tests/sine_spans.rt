@@ -1,4 +1,4 @@
-//! Sines of spans of degrees.
+//! Sines of intervals of degrees.
 use super::measures::{UNIT, after};
 use super::operations::range;
 use encl_core::{Coarse, Enclosure, Span};
@@ -67,7 +67,7 @@ fn is_around(found: Coarse, a: i128, b: i128, degrees: i64) -> bool {
     }
 }
 
-/// Ranges of degrees, and the sines of both ends, as floors at 2⁻⁵⁶.
+/// Ranges of degrees, and the sines of both endpoints, as floors at 2⁻⁵⁶.
 #[rattlefmt::skip]
 const SINES: [(i64, i64, i128, i128); 11] = [
     (10, 12, 12_512_669_891_749_651, 14_981_616_212_685_291),

@@ -13,7 +13,7 @@ enum Function {
     Tangent,
 }
 
-/// What a function comes to at an angle.
+/// The value of a function at an angle.
 fn value<E: Enclosure>(function: Function, x: E) -> E {
     match function {
         Function::Sine => sin_deg(x),

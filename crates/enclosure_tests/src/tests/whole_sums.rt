@@ -1,4 +1,5 @@
-//! Sums of waves in whole numbers: the sines at the edges of octants, and how narrow a sum is, where its days are known and where they aren't.
+//! Sums of periodic terms in whole numbers: the sines at the edges of octants, and how narrow a sum is, where its days are known and
+//! where they aren't.
 use encl_core::Span;
 use periodic_terms::{TurningWave, sine_at_turn, sum_over};
 

@@ -15,7 +15,7 @@ pub fn is_value(staged: &Staged, kind: Kind, place: Place, day: i64, value: i64)
     }
 }
 
-/// Whether the answer is that no correction of the year is known.
+/// Whether the answer is that no ΔT of the year is known.
 pub fn is_void(staged: &Staged, kind: Kind, place: Place, day: i64) -> bool {
     let Some(fact) = Fact::new(kind, place, day) else {
         return false;

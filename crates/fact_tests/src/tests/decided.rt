@@ -1,6 +1,6 @@
 //! The decided table: each kind of fact at each of its places, on the first days of the months of 2024, 564 facts. Each has
-//! the value that an independent implementation gives. That what coarse enclosures leave open is decided by fine ones is the second
-//! test.
+//! the value that an independent implementation gives. That what coarse enclosures leave undecided is decided by fine ones is the
+//! second test.
 use super::answers::{assert_facts, assert_year};
 use book_model::{Fact, Kind, Place};
 use encl_core::Coarse;
@@ -365,19 +365,19 @@ fn facts_of_2024_are_decided(rt: HostRuntime) {
     assert_decided(&rt, &Staged::new(), &DECIDED);
 }
 
-/// Facts that coarse enclosures leave open, and their values.
+/// Facts that coarse enclosures leave undecided, and their values.
 #[rattlefmt::skip]
 const OPEN: [(Kind, Place, i64, i64); 6] = [
     (Kind::Dt, Place::None, 659_263, 12_494),
     (Kind::Dt, Place::None, 721_109, 45_659),
-    // The one fact of the 700 lines of `sample 700 1` that coarse enclosures leave open.
+    // The one fact of the 700 lines of `sample 700 1` that coarse enclosures leave undecided.
     (Kind::Dt, Place::None, 721_285, 45_659),
     (Kind::Phasis, Place::Cairo, 695_106, 695_104),
     (Kind::Phasis, Place::Cairo, 706_273, 706_268),
     (Kind::Phasis, Place::Cairo, 708_347, 708_334),
 ];
 
-/// What coarse enclosures alone come to; nothing where there is no such fact.
+/// The result by coarse enclosures alone; nothing where there is no such fact.
 fn coarse_answer(kind: Kind, place: Place, day: i64) -> Option<Answer> {
     Some(answer_over::<Coarse>(Fact::new(kind, place, day)?))
 }

@@ -1,5 +1,5 @@
-//! The decided table at the ends of the days of which facts have values: each kind of fact at each of its places, on the first days of
-//! the months of 1702 and of 2148, 888 facts. Each has the value that an independent implementation gives.
+//! The decided table at the bounds of the days of which facts have values: each kind of fact at each of its places, on the first days
+//! of the months of 1702 and of 2148, 888 facts. Each has the value that an independent implementation gives.
 use super::answers::assert_year;
 use book_model::{Kind, Place};
 use fact_eval::Staged;

@@ -8,7 +8,7 @@ use std::test::Fail;
 /// Facts and their values.
 #[rattlefmt::skip]
 const VALUES: [(Kind, Place, i64, i64); 187] = [
-    // Corrections, in milliseconds.
+    // Values of ΔT, in milliseconds.
     (Kind::Dt, Place::None, 620_729, 8_119),
     (Kind::Dt, Place::None, 621_278, 8_122),
     (Kind::Dt, Place::None, 638_961, 12_873),
@@ -103,7 +103,7 @@ const VALUES: [(Kind, Place, i64, i64); 187] = [
     (Kind::MinorTerm, Place::Beijing, 738_886, 738_891),
     (Kind::MinorTerm, Place::Beijing, 738_977, 738_980),
     (Kind::MinorTerm, Place::Beijing, 739_221, 739_226),
-    // The days of the moon, and first sights.
+    // The days of the moon, and first visibilities.
     (Kind::NewMoon, Place::None, 739_004, 738_984),
     (Kind::FirstQuarter, Place::None, 738_973, 738_962),
     (Kind::FullMoon, Place::None, 738_973, 738_970),
@@ -207,7 +207,7 @@ const VALUES: [(Kind, Place, i64, i64); 187] = [
     (Kind::Nisan, Place::Haifa, 784_541, 784_611),
 ];
 
-/// Facts of years of which no correction is known. The last winter solstice before the days that are told here fell in 1699.
+/// Facts of years of which ΔT is not known. The last winter solstice before the days that are told here fell in 1699.
 #[rattlefmt::skip]
 const VOID: [(Kind, Place, i64); 21] = [
     (Kind::NewMoonBefore, Place::Beijing, 620_728),

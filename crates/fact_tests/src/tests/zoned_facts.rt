@@ -124,7 +124,7 @@ const FACTS: [(Kind, Place, i64, i64, u32); 113] = [
     (Kind::NewMoonFrom, Place::Tokyo, 691_528, 691_529, 19),
 ];
 
-/// Whether the formula of a fact comes to a value, by so many tests.
+/// Whether the formula of a fact has a value, by so many tests.
 fn is_counted(kind: Kind, place: Place, day: i64, value: i64, tests: u32) -> bool {
     let Some(fact) = Fact::new(kind, place, day) else {
         return false;

@@ -1,11 +1,11 @@
-//! Damaged files and fronts of a file, by one job and by eight.
+//! Damaged files and prefixes of a file, by one thread and by eight.
 use super::jobs::PERSIAN_TEXT;
 use super::{Streams, assert_run, run_in_memory};
 use fact_eval::Staged;
 use run_core::{OpenGate, Status};
 use std::test::Fail;
 
-/// The words for one job and for eight.
+/// The arguments for one thread and for eight.
 const CHECKS: [&[&str]; 2] = [&["check", "--jobs", "1"], &["check", "--jobs", "8"]];
 
 /// These bytes, all of which can be read, and room for a short text.

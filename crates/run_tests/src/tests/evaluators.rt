@@ -1,4 +1,4 @@
-//! Evaluators that leave more facts open than the program's own, and that count what they are asked.
+//! Evaluators that leave more facts undecided than the program's own, and that count what they are asked.
 use super::{ROW_TEXT, Streams, run_in_memory};
 use book_model::Fact;
 use encl_core::Coarse;
@@ -10,8 +10,8 @@ use std::sync::atomic::AtomicUsize;
 use std::sync::atomic::Ordering::SeqCst;
 use std::test::Fail;
 
-/// The evaluator by coarse enclosures, and by fine ones where these leave a test open whose ends aren't close. Its undecided answers
-/// are right, and there are more of them than the program's own evaluator gives.
+/// The evaluator by coarse enclosures, and by fine ones where these leave a test undecided whose bounds aren't close. Its
+/// undecided answers are right, and there are more of them than the program's own evaluator gives.
 struct CoarseWhereClose;
 
 impl Evaluator for CoarseWhereClose {
@@ -24,8 +24,8 @@ impl Evaluator for CoarseWhereClose {
     }
 }
 
-/// What `convert` writes for a line whose fact coarse enclosures leave open, by ends that are near: the months since a new moon lie
-/// from two parts of 2⁻³⁶ below a whole number of months to that number.
+/// What `convert` writes for a line whose fact coarse enclosures leave undecided, by bounds that are near: the months since a new
+/// moon lie from two parts of 2⁻³⁶ below a whole number of months to that number.
 const OPEN_TEXT: &str = "calendrica 2 depth 40\n\
     line 1 undecided phase-wrap 242 -2097152 0 fact phasis cairo 695106\n\
     end lines 1 facts 0\n";
@@ -47,16 +47,16 @@ const DECIDED_AND_OPEN: &str = "calendrica 1 depth 40\n\
     line 2 undecided phase-wrap 7 -3 2 fact phasis cairo 695136\n\
     end lines 2 facts 1\n";
 
-/// What `upgrade` makes of it where the fact of the first is left open: that line is computed, the other copied.
+/// What `upgrade` makes of it where the fact of the first is left undecided: that line is computed, the other copied.
 const BOTH_OPEN: &str = "calendrica 2 depth 40\n\
     line 1 undecided phase-wrap 242 -2097152 0 fact phasis cairo 695106\n\
     line 2 undecided phase-wrap 7 -3 2 fact phasis cairo 695136\n\
     end lines 2 facts 0\n";
 
-/// Coarse enclosures leave one of its facts open, a correction, by ends that are far apart.
+/// Coarse enclosures leave one of its facts undecided, ΔT, by bounds that are far apart.
 const SAMPLE: &str = "sample 700 1 decided 700 undecided 0 void 0 refused 0 facts 2563\n";
 
-/// Words, an input, how the run over coarse enclosures ends, and what it writes.
+/// Arguments, an input, how the run over coarse enclosures ends, and what it writes.
 const OPEN: [(&[&str], &str, Status, &str); 5] = [
     (
         &["convert"],
@@ -163,7 +163,7 @@ const NEWER: &str = "calendrica 2 depth 40\n\
     line 6 refused 2\n\
     end lines 6 facts 2\n";
 
-/// Words, an input, which read fails, how the run ends, the end of what it writes, and how many facts were evaluated.
+/// Arguments, an input, which read fails, how the run ends, the end of what it writes, and how many facts were evaluated.
 const COUNTED: [(&[&str], &str, u32, Status, &str, usize); 7] = [
     // Nothing is read under these: the first read would fail.
     (

@@ -1,4 +1,4 @@
-//! Streams that fail at each of their calls, by one job and by eight.
+//! Streams that fail at each of their calls, by one thread and by eight.
 use super::jobs::{PERSIAN_TEXT, TWO_LINES};
 use super::upgrades::OLDER_TEXT;
 use super::{Streams, run_in_memory};
@@ -58,8 +58,8 @@ fn a_read_that_fails_leaves_nothing_written(rt: HostRuntime) -> Result<(), Fail>
     Ok(())
 }
 
-/// How many writes a command makes. A write that fails leaves a front of the text, and the text isn't whole; where none fails
-/// the run ends as it would.
+/// How many writes a command makes. A write that fails leaves a prefix of the text, and the text isn't whole; where none
+/// fails the run ends as it would.
 fn writes_of<R: Threads + Sync>(
     rt: &R,
     alloc: Global,

@@ -1,4 +1,4 @@
-//! Several jobs: that their pieces are worked at the same time, which no clause says, and what they write.
+//! Several threads: that their chunks are worked at the same time, which no clause says, and what they write.
 use super::upgrades::{EACH_FORM, EACH_RENEWED};
 use super::{Streams, run_in_memory};
 use book_model::{Fact, Kind, Place};
@@ -12,7 +12,7 @@ use std::test::Fail;
 use std::thread;
 use std::thread::Threads;
 
-/// How often a piece looks for the other's flag.
+/// How often a chunk looks for the other's flag.
 const LOOKS: u32 = 200_000_000;
 
 /// What `convert` writes for `gregorian 2024-03-20 persian`.
@@ -30,7 +30,7 @@ const TWO_LINES_TEXT: &str = "calendrica 2 depth 40\n\
     line 2 refused 2\n\
     end lines 2 facts 1\n";
 
-/// Two pieces meet here: each raises its own flag, and looks for the other's.
+/// Two chunks meet here: each raises its own flag, and looks for the other's.
 #[derive(Drop)]
 struct Meeting {
     flags: [AtomicBool; 2],
@@ -95,7 +95,7 @@ fn facts_meet<R: Threads + Sync>(rt: &R, alloc: Global) -> Result<bool, Fail> {
     Ok(gate.was_held() && answers.len() == 2)
 }
 
-/// Words for two jobs, an input, and what is written.
+/// Arguments for two threads, an input, and what is written.
 const MEETINGS: [(&[&str], &str, &str); 3] = [
     (&["convert", "--jobs", "2"], TWO_LINES, TWO_LINES_TEXT),
     (

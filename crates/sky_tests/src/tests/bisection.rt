@@ -1,4 +1,4 @@
-//! Bisection: the middle of the last ends, and after how many tests.
+//! Bisection: the middle of the last bounds, and after how many tests.
 ghost use Rattle.book_model.specs.programs.Programs.{answer};
 
 use super::measures::fraction;
@@ -6,7 +6,7 @@ use angle_search::{Angular, invert_angular};
 use book_model::{Fail as FormulaFail, Site};
 use encl_core::{Coarse, Enclosure, Span, Trail};
 
-/// The number itself as an angle of which no course is known.
+/// The number itself as an angle of which no linear model is known.
 #[derive(Drop)]
 struct Identity;
 

@@ -1,4 +1,4 @@
-//! The crescent: evenings and first sights of an independent implementation of the formulas, with the tests that they make.
+//! The crescent: evenings and first visibilities of an independent implementation of the formulas, with the tests that they make.
 use super::measures::{fraction, is_counted, is_near};
 use book_model::Fail as FormulaFail;
 use book_model::location_tables::CAIRO;

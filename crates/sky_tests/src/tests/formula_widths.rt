@@ -1,4 +1,4 @@
-//! Answers over fine enclosures of moments without width, in all years of the table of corrections: each is at most as wide as
+//! Answers over fine enclosures of moments without width, in all years of the table of ΔT: each is at most as wide as
 //! the table of greatest widths says.
 use super::formulas::{Formula, value};
 use super::measures::{fraction, new_year};
@@ -7,7 +7,8 @@ use encl_core::greatest_widths::{DISTANCE, LATITUDE, MOON, NEW_MOON, PHASE, SUN,
 use encl_core::{Enclosure, Trail};
 use fix_fine::Fine;
 
-/// Whether there is an answer, at most as wide as a row says of an argument without width. A row counts 2⁻⁶⁴, an end 2⁻⁵⁶.
+/// Whether there is an answer, at most as wide as a row says of an argument without width. A row is in units of 2⁻⁶⁴, a bound in
+/// units of 2⁻⁵⁶.
 fn is_within(found: Result<Fine, FormulaFail>, row: WidthRow) -> bool {
     let Ok(found) = found else {
         return false;

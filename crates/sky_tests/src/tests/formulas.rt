@@ -42,7 +42,7 @@ pub enum Formula {
     Distance,
 }
 
-/// What a formula comes to.
+/// The result of a formula.
 pub fn value<E: Enclosure>(formula: Formula, t: E, trail: &mut Trail) -> Result<E, FormulaFail> {
     match formula {
         Formula::Dynamical => dynamical(t, trail),
@@ -72,7 +72,7 @@ pub fn value<E: Enclosure>(formula: Formula, t: E, trail: &mut Trail) -> Result<
     }
 }
 
-/// What a formula comes to at a moment that is a fraction, and how many tests it makes.
+/// The result of a formula at a moment that is a fraction, and how many tests it makes.
 pub fn counted<E: Enclosure>(
     formula: Formula,
     num: i128,
@@ -83,8 +83,8 @@ pub fn counted<E: Enclosure>(
     (found, trail.count())
 }
 
-/// Asserts what formulas come to over `Coarse`: each row has a formula, a moment (R.D.) as a fraction, the value there as its floor at
-/// 2⁻⁵⁶, how many units the answer is wide at most, and how many tests it makes.
+/// Asserts the results of formulas over `Coarse`: each row has a formula, a moment (R.D.) as a fraction, the value there as its floor
+/// at 2⁻⁵⁶, how many units the answer is wide at most, and how many tests it makes.
 pub fn assert_values(rt: &impl Abort, rows: &[(Formula, i128, u64, i128, i128, u32)]) {
     for (formula, num, den, there, units, tests) in rows {
         let found = counted(*formula, *num, *den);

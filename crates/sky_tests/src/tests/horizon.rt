@@ -92,7 +92,7 @@ const OFFSETS: [(Location, i128, u64, i128, i128); 3] = [
     (UJJAIN, 47, 60, 2_631_209, -11_969_985_967_360_544),
 ];
 
-/// What an offset comes to at quarters of a day, and how many tests it makes.
+/// The offset at quarters of a day, and how many tests it makes.
 fn offset_at(
     location: &Location,
     num: i128,

@@ -1,4 +1,4 @@
-//! What a trail keeps: that it is what would be evaluated anew, and is taken with its test.
+//! What a trail caches: that it is what would be evaluated anew, and is taken with its test.
 use super::measures::{fraction, is_near};
 use encl_core::{Asked, Coarse, Enclosure, Trail};
 use fix_fine::Fine;
@@ -8,16 +8,16 @@ use time_scales::dynamical;
 /// A step of a run.
 #[derive(Clone, Copy, Debug)]
 enum Step {
-    /// A run begins that keeps nothing.
+    /// A run begins that caches nothing.
     Begin,
-    /// Another run begins, with what is kept.
+    /// Another run begins, with what is cached.
     Anew,
     /// The new moon of a number is what is evaluated anew, over one kind of enclosures.
     Coarse(u16),
     Fine(u16),
-    /// The new moon of a number is kept at a scale, or isn't.
+    /// The new moon of a number is cached at a scale, or isn't.
     Kept(u16, u32, bool),
-    /// A noon, by its number of half days, is moved by the correction of its year, of which the floor is told at 2⁻⁵⁶.
+    /// A noon, by its number of half days, is moved by ΔT of its year, of which the floor is told at 2⁻⁵⁶.
     Moved(i128, i128),
     /// So many tests have been made.
     Count(u32),
@@ -38,7 +38,7 @@ fn is_moved(halves: i128, days: i128, trail: &mut Trail) -> bool {
     }
 }
 
-/// Whether a step comes to what it tells.
+/// Whether a step gives what it tells.
 fn is_done(step: Step, trail: &mut Trail) -> bool {
     match step {
         Step::Begin => {
@@ -63,7 +63,7 @@ fn is_done(step: Step, trail: &mut Trail) -> bool {
 }
 
 const RUNS: [Step; 53] = [
-    // A kept new moon is taken with its test.
+    // A cached new moon is taken with its test.
     Step::Begin,
     Step::Coarse(24_724),
     Step::Kept(24_724, 36, true),
@@ -85,7 +85,7 @@ const RUNS: [Step; 53] = [
     Step::Coarse(0),
     Step::Count(7),
     Step::Kept(24_727, 36, false),
-    // Three neighbours are kept together.
+    // Three neighbours are cached together.
     Step::Begin,
     Step::Coarse(24_724),
     Step::Coarse(24_725),
@@ -107,7 +107,7 @@ const RUNS: [Step; 53] = [
     Step::Fine(24_724),
     Step::Fine(24_724),
     Step::Coarse(24_724),
-    // Another run begins with what is kept.
+    // Another run begins with what is cached.
     Step::Begin,
     Step::Fine(0),
     Step::Anew,
@@ -115,7 +115,7 @@ const RUNS: [Step; 53] = [
     Step::Kept(0, 56, true),
     Step::Fine(0),
     Step::Count(1),
-    // Each year has its correction in one run.
+    // Each year has its ΔT in one run.
     Step::Begin,
     Step::Moved(1_464_623, 53_977_014_480_359),
     Step::Moved(1_464_625, 54_255_218_326_903),

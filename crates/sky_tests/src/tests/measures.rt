@@ -1,8 +1,8 @@
-//! How near an enclosure comes to a number from outside; the first days of years.
+//! How close an enclosure is to an expected value; the first days of years.
 use book_model::{Fail as FormulaFail, Frac, Site};
 use encl_core::{Coarse, Enclosure, Trail};
 
-/// A unit of `Coarse`, which counts 2⁻⁵⁶.
+/// A unit of `Coarse`, in units of 2⁻⁵⁶.
 pub const UNIT: i128 = 1_048_576;
 
 /// An enclosure of a fraction; of every number, where the denominator is 0.
@@ -72,7 +72,7 @@ pub fn is_counted(found: Result<i64, FormulaFail>, trail: &Trail, answer: i64, t
     }
 }
 
-/// Whether a call fails at a site: by the test of a number, which is open; or, where that is 0, since it has no value.
+/// Whether a call fails at a site: by the test of a number, which is undecided; or, where that is 0, since it has no value.
 pub fn fails_at<E: Enclosure>(found: Result<E, FormulaFail>, turn: u32, site: Site) -> bool {
     match found {
         Ok(_) => false,

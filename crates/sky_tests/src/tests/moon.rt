@@ -45,7 +45,7 @@ const ANGLES: [(Formula, i128, u64, i128, i128, u32); 30] = [
 ];
 
 /// Moments (R.D.) as fractions, and the new moons before and from there; days, and when the moon was last new and last full before
-/// they begin, by the middle of the last ends of the bisection: floors at 2⁻⁵⁶ of a day.
+/// they begin, by the middle of the last bounds of the bisection: floors at 2⁻⁵⁶ of a day.
 #[rattlefmt::skip]
 const MOMENTS: [(Formula, i128, u64, i128); 40] = [
     (Formula::MoonBefore, 2_631_208, 4, 47_397_747_358_441_379_810_681),

@@ -158,8 +158,8 @@ fn longitudes_of_every_new_year_keep_their_bound(rt: HostRuntime) {
     }
 }
 
-/// Formulas, stretches of days (R.D.) or every moment, and the number and the site of the test that is open there; 0 and a site where
-/// there is no value.
+/// Formulas, intervals of days (R.D.) or every moment, and the number and the site of the test that is undecided there; 0 and a site
+/// where there is no value.
 #[rattlefmt::skip]
 const FAILURES: [(Formula, (i64, i64), u32, Site); 7] = [
     (Formula::Sun, (738_964, 738_966), 2, Site::SunWrap),

@@ -7,7 +7,7 @@ use fix_fine::Fine;
 use std::process::Abort;
 use time_scales::{correction, year};
 
-/// Years, the corrections in days, as floors at 2⁻⁵⁶, and how many units the answers are wide at most.
+/// Years, ΔT in days, as floors at 2⁻⁵⁶, and how many units the answers are wide at most.
 #[rattlefmt::skip]
 const CORRECTIONS: [(i64, i128, i128); 29] = [
     (-499, 14_332_775_793_199_228, 4),
@@ -56,7 +56,7 @@ const FINE_CORRECTIONS: [(i64, i128, i128); 10] = [
     (2150, 273_952_297_333_085, 3),
 ];
 
-/// Asserts corrections of years over enclosures of a kind, whose widths count so many 2⁻⁵⁶.
+/// Asserts values of ΔT of years over enclosures of a kind, whose widths are so many times 2⁻⁵⁶.
 fn assert_corrections<E: Enclosure>(rt: &impl Abort, rows: &[(i64, i128, i128)], unit: i128) {
     for (year, days, most) in rows {
         let found = correction::<E>(*year, &mut Trail::new());
@@ -67,7 +67,7 @@ fn assert_corrections<E: Enclosure>(rt: &impl Abort, rows: &[(i64, i128, i128)],
     }
 }
 
-/// Whether no correction of a year is known.
+/// Whether no ΔT of a year is known.
 fn is_void(year: i64) -> bool {
     fails_at(correction::<Coarse>(year, &mut Trail::new()), 0, Site::Year)
 }
@@ -81,7 +81,7 @@ fn corrections_are_those_of_the_reference(rt: HostRuntime) {
     }
 }
 
-/// Days or stretches of them (R.D.), and their years in the calendar. The first two are open.
+/// Days or intervals of them (R.D.), and their years in the calendar. The first two are undecided.
 #[rattlefmt::skip]
 const YEARS: [((i64, i64), Result<i64, FormulaFail>); 14] = [
     ((738_885, 738_886), Err(FormulaFail::Undecided(Undecided {

@@ -8,7 +8,7 @@ use time_scales::zone_at;
 /// A 2³⁶th of a day.
 const UNITS_IN_DAY: u64 = 1 << 36;
 
-/// The ends of an open test count 2⁻⁵⁶.
+/// The bounds of an undecided test are in units of 2⁻⁵⁶.
 const ENDS_IN_DAY: i128 = 1 << 56;
 
 /// The hours of places a 2³⁶th of a day before a day (R.D.) on which their time changes, and as it begins, as floors at 2⁻⁵⁶, and how
@@ -63,7 +63,7 @@ const CHANGES: [(Place, i64, u32); 7] = [
     (Place::Tokyo, 689_213, 1),
 ];
 
-/// Whether the hours of a place are open around a day, at its ends, by the test of a number.
+/// Whether the hours of a place are undecided around a day, at its bounds, by the test of a number.
 fn is_open(place: Place, day: i64, number: u32) -> bool {
     let before = day.saturating_sub(1);
     match zone_at(place, from_to((before, day)), &mut Trail::new()) {

@@ -5,7 +5,7 @@ use std::process::Abort;
 use std::sync::atomic::AtomicUsize;
 use std::sync::atomic::Ordering::SeqCst;
 
-/// Answers the correction of three days, and facts of early days, and no others. It counts what it is asked.
+/// Answers ΔT of three days, and facts of early days, and no others. It counts what it is asked.
 #[derive(Drop)]
 pub(crate) struct Known<'a, A: Abort> {
     abort: &'a A,
@@ -45,7 +45,7 @@ impl<'a, A: Abort> Evaluator for Known<'a, A> {
     }
 }
 
-/// The correction of a day.
+/// ΔT of a day.
 pub(crate) fn correction_on(day: i64) -> Result<Fact, &'static str> {
     Fact::new(Kind::Dt, Place::None, day).ok_or("no fact")
 }

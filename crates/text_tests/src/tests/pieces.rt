@@ -5,7 +5,7 @@ use std::sync::atomic::AtomicUsize;
 use std::sync::atomic::Ordering::SeqCst;
 use std::test::Fail;
 
-/// Counts how often the first pieces begin.
+/// Counts how often the first chunks begin.
 #[derive(Drop)]
 struct Told {
     pieces: [AtomicUsize; 4],

@@ -6,7 +6,7 @@ use oracle_core::{Answer, Evaluator};
 use shelf_core::{Shelf, Shelved};
 use std::test::Fail;
 
-/// Days with their correction.
+/// Days with their ΔT.
 const CORRECTIONS: [(i64, i64); 3] = [(738_926, 73_871), (738_927, 73_871), (726_592, 56_895)];
 
 #[test]
@@ -50,7 +50,7 @@ fn nothing_is_evaluated_twice(rt: HostRuntime) -> Result<(), Fail> {
     let shelf = Shelf::open(alloc)?;
     let evaluator = Known::new(&rt);
     let shelved = Shelved::new(alloc, &shelf, &evaluator);
-    // Each day with the answer of its correction, and how many evaluations there were by then. Early days have no slot.
+    // Each day with the answer of its ΔT, and how many evaluations there were by then. Early days have no slot.
     for (day, answer, asked) in [
         (738_926, Answer::Value(73_871), 1usize),
         (738_927, Answer::Value(73_871), 2),

@@ -53,7 +53,7 @@ fn no_date(alloc: Global) -> Result<CertLine, AllocError> {
     Ok(CertLine::NoDate { echo, back, facts })
 }
 
-/// An open test of a rounding.
+/// An undecided test of a rounding.
 const ROUNDING: Undecided = Undecided {
     turn: 2,
     site: Site::Round,

@@ -1,4 +1,4 @@
-//! Words at spaces, and what they tell.
+//! Arguments at spaces, and what they tell.
 use command_words::{Command, NoCommand, Order, order_of};
 use std::alloc::Global;
 use std::process::Abort;
@@ -19,7 +19,7 @@ fn assert_told(
     Ok(())
 }
 
-/// Words that tell a command, by one job.
+/// Arguments that name a command, by one thread.
 static COMMANDS: [(&str, Command); 21] = [
     ("convert", Command::Convert),
     ("check", Command::Check),
@@ -53,14 +53,14 @@ static COMMANDS: [(&str, Command); 21] = [
     ("-- convert", Command::Convert),
 ];
 
-/// Words that tell how many jobs convert.
+/// Arguments that tell how many threads convert.
 const JOBS: [(&str, usize); 3] = [
     ("convert --jobs 2", 2),
     ("convert --jobs=64", 64),
     ("--jobs 008 convert", 8),
 ];
 
-/// Words that name no command.
+/// Arguments that name no command.
 static NO_FORMS: [&str; 59] = [
     "",
     "almanac",

@@ -6,7 +6,7 @@ use Rattle.book_model.specs.programs.Leading.{units_of_56}
 use Rattle.interval_ends.specs.Scales.{Scale, coarse, fine, at_scale, finer_units}
 use Rattle.interval_ends.proofs.spans.ends_at_fine_scale.Goals as goal
 
--- ends that are counted by the finer scale
+-- endpoints that are counted by the finer scale
 record AreFiner (scale : Scale) (a b x y : ℤ) : Type 0 where
   low : x ≡ a *ℤ finer_units scale
   high : y ≡ b *ℤ finer_units scale

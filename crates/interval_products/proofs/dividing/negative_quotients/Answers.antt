@@ -107,7 +107,7 @@ returns-in_err-lo-clause-some g c = λ e t.
     let n = simp to_z-of_z at c.in_err-lo.ensures.some in
     absurd (true≢false (sym (n (rw (ea, eb, ec, ed) (by_negative g.I.MachineWord.scale _ _ _ _ c.args.y.ordered c.requires t).1))))
 
--- the numbers are the opposites of the ends, and the quotients are theirs
+-- the numbers are the opposites of the endpoints, and the quotients are theirs
 record AreOfOpposites (scale : Scale) (a b c d x y z w lo hi : ℤ) : Type 0 where
   first : x ≡ pos 0 -ℤ b
   last : y ≡ pos 0 -ℤ a

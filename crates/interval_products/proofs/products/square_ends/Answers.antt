@@ -50,7 +50,7 @@ ends_of-requires g c =
     let o = outward_order _ _ _ _ _ (squares_order _ _ _ _ n k k') i j (unit_positive g.I.MachineWord.scale) in
     simp to_z-of_z o
 
--- the least and the greatest square, rounded outwards, and the ends of these
+-- the least and the greatest square, rounded outwards, and the endpoints of these
 record AreSquared (scale : Scale) (a b n m lo hi : ℤ) : Type 0 where
   least : n ≡ least_square_of a b
   first : (a *ℤ a) ≤ℤ m

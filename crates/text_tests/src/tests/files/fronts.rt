@@ -1,4 +1,4 @@
-//! Fronts of a file.
+//! Prefixes of a file.
 use super::assert_breaks;
 use std::test::Fail;
 
@@ -9,7 +9,7 @@ const WHOLE: &[u8] = b"calendrica 1 depth 40\n\
     line 2 refused 3\n\
     end lines 2 facts 1\n";
 
-/// The rule and the line that fronts break, from one length to before another. Without its last line feed it is a file still.
+/// The rule and the line that prefixes break, from one length to before another. Without its last line feed it is a file still.
 const FRONTS: [(usize, usize, Option<(usize, u8)>); 12] = [
     (0, 21, Some((1, 1))),
     (21, 23, Some((2, 6))),

@@ -1,6 +1,6 @@
-//! Numbers that fit and numbers that don't: at the ends of their ranges, and of 10, 20 and 40 digits.
+//! Numbers that fit and numbers that don't: at the bounds of their ranges, and of 10, 20 and 40 digits.
 
-/// The ends of the ranges of days, values and ends of open tests.
+/// The bounds of the ranges of days, values and bounds of undecided tests.
 pub const FITTING: &[&str] = &[
     "fact 1 dt - 40000000 -10000000\nend lines 0 facts 1",
     "fact 1 dt - -40000000 10000000\nend lines 0 facts 1",
@@ -68,7 +68,7 @@ pub const DAYS_AND_VALUES: &[&str] = &[
     "line 1 undecided year 1 0 0 fact dt - -40000001",
 ];
 
-/// Ends of open tests that don't fit or have another spelling.
+/// Bounds of undecided tests that don't fit or have another spelling.
 pub const ENDS: &[&str] = &[
     "line 1 undecided year 1 -170141183460469231731687303715884105729 0 fact dt - 1",
     "line 1 undecided year 1 0 170141183460469231731687303715884105728 fact dt - 1",

@@ -4,7 +4,7 @@ use byte_streams::{Failed, ReadStop, read_all, write_all};
 use std::alloc::Global;
 use std::test::Fail;
 
-/// How reading five bytes ends, so many at a call at most, where this call fails and no more than the limit are wanted; and how
+/// How reading five bytes ends, so many at a call at most, where this call fails and at most the limit are allowed; and how
 /// many calls failed.
 fn read_five(alloc: Global, most: usize, failing: u32, limit: usize) -> (Option<ReadStop>, u64) {
     let mut source = Given {

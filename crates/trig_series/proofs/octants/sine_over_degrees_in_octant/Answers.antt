@@ -42,7 +42,7 @@ returns-clause-holds c =
     λ n l. in_holds n c.args.octant c.args.lo c.args.hi c.max.result c.min.result _ _ _ _ _ _ u v (λ z e. low n z l e) (λ z e. high n z l e) c.hull.ensures.low
     c.hull.ensures.high
 
--- ends that are cut to an octant that they meet
+-- endpoints that are cut to an octant that they meet
 record AreCut (octant lo hi low high : ℤ) : Type 0 where
   above : lo ≤ℤ low
   below : high ≤ℤ hi
