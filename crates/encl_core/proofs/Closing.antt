@@ -1,4 +1,4 @@
--- The ends of an open test are no further apart than its sides are wide.
+-- The bounds of an undecided test are no further apart than its sides are wide.
 use Rattle.std.specs.Prelude.{◌≡◌, ℕ, ◌+◌, ◌^◌, ◌≤◌, Bool, true, false, not, cond, ℤ, pos, neg_ℤ, ◌-ℤ◌, ◌*ℤ◌, ◌≤ℤ◌, Some, None, FitsSigned, refl}
 use Rattle.std.proofs.Common.{arith}
 use Rattle.std.specs.Int.{w64}
@@ -20,7 +20,7 @@ apart : (v : ℕ) (lo hi : ℤ) → units_of_56 hi ≤F plus (units_of_56 lo) (b
 unfolding plus
 apart v lo hi h = omega (arith, ints, h.cross)
 
--- the ends of an interval that lie within a width of each other
+-- the endpoints of an interval that lie within a width of each other
 ends_of_close : (v : ℕ) (a b : Fraction) (lo hi : ℤ) → units_of_56 lo ≈ a → units_of_56 hi ≈ b → b ≤F plus a (breadth 0 0 v) → ((hi -ℤ lo) *ℤ pos 256) ≤ℤ pos v
 ends_of_close v a b lo hi l r h = apart v lo hi (le_trans _ _ _ (le_of_same r) (le_trans _ _ _ h (plus_mono _ _ _ _ (ge_of_same l) (le_refl _))))
 
@@ -69,7 +69,7 @@ floor_apart v lo hi i h (between_cells e k) = ends_apart _ _ v lo hi i h k
 floor_apart v lo hi i h (too_far q e f b) = absurd (f (floor_fits v i q h e))
 
 -- ---- comparisons
--- what an open comparison says of the ends: the two intervals meet
+-- what an undecided comparison says of the endpoints: the two intervals meet
 pub record Meet (a b c d : Fraction) : Type 0 where
   pub first : c ≤F b
   pub second : a ≤F d

@@ -39,7 +39,7 @@ one_test : {A T : Type 0} {R : A → T → Type 0} (w : World) (s : Site) (g : G
 unfolding run
 one_test w s g x next few h = after_test w s g (value w x) (cell_at g (value w x)) next few h
 
--- ---- what may be kept
+-- ---- what may be cached
 pub kept_without_test : {E : Type 0} {shown : E → Interval} {p : Program Expression} {b a : ℕ} {e : E} (o : Option Span) → AtMost 0 p
     → Follows shown p b a (Ok e) → IfSome o (λ s. shown e ⊆ shown_span s) → IfSome o (IsKept 0 p)
 kept_without_test None few h k = k

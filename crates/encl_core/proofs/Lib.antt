@@ -1,4 +1,4 @@
--- of interval_ends, given on
+-- of interval_ends, re-exported
 pub use Rattle.interval_ends.proofs.HighHalves
 pub use Rattle.interval_ends.proofs.Quotients
 pub use Rattle.interval_ends.proofs.Stepping

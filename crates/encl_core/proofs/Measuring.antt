@@ -15,7 +15,7 @@ use Rattle.book_model.specs.programs.Widths.{IsWithin, IsAbout, IsMoment}
 grains_below : (p q : ℕ) → p ≤ q → (record { num = pos p; below = 2 ^ 104 - 1 }) ≤F (record { num = pos q; below = 2 ^ 104 - 1 })
 grains_below p q h = record { cross = omega (arith, ints) }
 
--- a width by another slope and slack, which come to no less
+-- a width by another slope and slack, which give no less
 pub remeasured : (a b : ℤ) (w s k u t m : ℕ) (i : Interval) → s * w + k * 2 ^ 40 ≤ t * u + m * 2 ^ 40 → IsNarrow w (bounded a b s k) i
     → IsNarrow u (bounded a b t m) i
 unfolding IsNarrow

@@ -1,4 +1,4 @@
--- Pi lies between its neighbours that count 2^-56.
+-- Pi lies between its neighbours in units of 2^-56.
 use Rattle.std.proofs.Common.{ℕ, ◌≤◌, arith}
 use Rattle.std.proofs.lemmas.Int.{ints}
 use Rattle.book_model.specs.Fraction.{plus}

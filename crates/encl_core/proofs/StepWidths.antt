@@ -1,4 +1,4 @@
--- Open steps of what is measured are close, and what is left of a wrap is as wide as what was wrapped.
+-- Undecided steps of what is measured are close, and what is left of a wrap is as wide as what was wrapped.
 use Rattle.std.specs.Prelude.{◌≡◌, ℕ, ◌+◌, ◌*◌, ◌^◌, ◌≤◌, ◌<◌, ℤ, pos, neg_ℤ, nat_lt, true}
 use Rattle.std.proofs.Common.{arith}
 use Rattle.std.proofs.lemmas.Bool.{lt-ltb}

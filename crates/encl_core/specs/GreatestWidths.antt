@@ -13,6 +13,6 @@ abbrev over : (v d : ℕ) → ℕ
 over v (suc zero) = v
 over v d = v / d
 
--- the greatest width of a row where the argument is v wide; both count 2^-64
+-- the greatest width of a row where the argument is v wide; both are in units of 2^-64
 abbrev pub greatest_of : WidthRow → ℕ → ℕ
 greatest_of row v = over (times row.numerator v) row.denominator + row.slack

@@ -1,4 +1,4 @@
--- What a trail keeps of its run.
+-- What a trail caches of its run.
 use denote.Struct.Props as facts
 use Rattle.std.specs.Coded.{Unit-prop}
 use Rattle.std.specs.Prelude.{◌≡◌, ℕ, zero, suc, ◌≤◌, ◌+◌, ◌^◌, ℤ, pos, negsuc, ◌≤ℤ◌, Bool, true, false, ◌+ℤ◌}
@@ -17,7 +17,7 @@ use Rattle.encl_core.specs.declared.asked.Asked.TheVariants.{NewMoon, Correction
 use Rattle.encl_core.specs.declared.span.Span.{Span}
 use Rattle.book_model.specs.declared.time_tables.TheConstants.{RECENT_START, TABLE_END}
 
--- the interval between the ends of a span
+-- the interval between the endpoints of a span
 abbrev pub shown_span : Span → Interval
 shown_span s = between (units_of_56 s.lo) (units_of_56 s.hi)
 
@@ -41,7 +41,7 @@ pub record IsKept (n : ℕ) (p : Program Expression) (s : Span) : Type 0 where
 pub record IsKeptAbout (size width bits : ℕ) (s : Span) : Type 0 where
   pub about : bits ≡ 56 → IsAbout size width (shown_span s)
 
--- the new moon of a number is at most so wide, where its year has a correction: half of 2^-34 and a little more; recent ones lie
+-- the new moon of a number is at most so wide, where its year has ΔT: half of 2^-34 and a little more; recent ones lie
 -- where recent moments do
 pub record IsMoonWithin (number : ℤ) (bits : ℕ) (s : Span) : Type 0 where
   pub about : negsuc 6299 ≤ℤ number → number ≤ℤ pos 55724 → bits ≡ 56 → IsDated 1 (2 ^ 29 + 2 ^ 24 + 2 ^ 17) (shown_span s)
@@ -61,7 +61,7 @@ abbrev pub IsKeptWithin : Asked → ℕ → Span → Type 0
 IsKeptWithin (NewMoon number) bits s = IsMoonWithin number bits s
 IsKeptWithin (Correction year) bits s = IsKeptAbout (2 ^ 30) (2 ^ 14) bits s
 
--- ---- a span is kept in one way at most, so it may be a ghost field
+-- ---- a span is cached in one way at most, so it may be a ghost field
 ends_prop : (i j : Interval) → IsProp (AreWithin i j)
 ends_prop everything everything = Unit-prop
 ends_prop (between a b) everything = Unit-prop

@@ -1,4 +1,4 @@
--- of interval_ends, given on
+-- of interval_ends, re-exported
 pub use Rattle.interval_ends.specs.Units
 pub use Rattle.interval_ends.specs.declared.parts
 pub mod Sizes

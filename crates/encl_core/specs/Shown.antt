@@ -7,6 +7,6 @@ use Rattle.interval_ends.specs.Shown.{shown_ends, ends_proper}
 abbrev pub shown_coarse : Coarse → Interval
 shown_coarse x = shown_ends x.ends
 
--- its ends are in order
+-- its endpoints are in order
 pub coarse_proper : (x : Coarse) → IsProper (shown_coarse x)
 coarse_proper x = ends_proper x.ends

@@ -6,7 +6,7 @@ ghost use Rattle.book_model.specs.numbers.Expressions.{pi as pi_number};
 use crate::{Enclosure, Span};
 use book_model::tables::{PI_ABOVE, PI_BELOW};
 
-/// Pi, between two neighbours that count 2⁻⁵⁶.
+/// Pi, between two neighbours in units of 2⁻⁵⁶.
 #[tactic(auto, using(crate::proofs::PiEnds::within_pi, crate::proofs::PiEnds::narrow_pi))]
 pub fn pi<E: Enclosure>() -> E
     ensures encloses { Encloses E.shown E.BITS pi_number result }

@@ -1,4 +1,4 @@
-//! Enclosures by ends in 64 bits, which count 2⁻³⁶.
+//! Enclosures by endpoints of 64 bits in units of 2⁻³⁶.
 ghost use Rattle.std.specs.Prelude.{refl};
 ghost use Rattle.encl_core.specs.Shown.{shown_coarse, coarse_proper};
 
@@ -13,7 +13,7 @@ use interval_ends::{
 };
 use interval_products::{div_ends, mul_ends, root_ends, square_ends};
 
-/// An enclosure by two ends in 64 bits that count 2⁻³⁶, rounded outwards; every number, where an end doesn't fit.
+/// An enclosure by two endpoints of 64 bits in units of 2⁻³⁶, rounded outwards; every number, where an endpoint doesn't fit.
 #[derive(Clone, Copy, Debug, PartialEq)]
 pub struct Coarse {
     pub(crate) ends: Option<Ends<i64>>,
@@ -117,7 +117,7 @@ impl Enclosure for Coarse {
     #[inline(always)]
     fn angle(self, phase: i64, rate: i64) -> Self {
         Coarse {
-            // One quotient at each end in place of three roundings.
+            // One quotient at each endpoint in place of three roundings.
             ends: angle_ends(self.ends, phase, rate),
         }
     }

@@ -25,7 +25,7 @@ pub trait Enclosure: Copy + Drop {
     /// The interval that an enclosure shows.
     ghost shown: { Self → Interval };
 
-    /// The ends of that interval are in order.
+    /// The endpoints of that interval are in order.
     ghost proper: { (e : Self) → IsProper (shown e) };
 
     /// The scale is 2 to the power of minus this.
@@ -56,7 +56,7 @@ pub trait Enclosure: Copy + Drop {
     fn from_frac(value: Frac) -> Self
         ensures encloses { Encloses shown BITS (constant (fraction_of value)) result };
 
-    /// The enclosure of what lies between two ends. It is at most two units wider than these are apart.
+    /// The enclosure of what lies between two endpoints. It is at most two units wider than these are apart.
     fn from_span(span: Span) -> Self
         ensures holds { between (units_of_56 span.lo) (units_of_56 span.hi) ⊆ shown result }
         ensures narrow { (w : ℕ) (b : Bound) → IsNarrow w b
@@ -112,8 +112,8 @@ pub trait Enclosure: Copy + Drop {
         self.mul_frac(Frac::whole(by))
     }
 
-    /// The angle of a wave: its phase, and its rate times the members, which are days. The phase is in ten-millionths,
-    /// the rate in ten-millionths a century. So the rounding of centuries isn't multiplied by a rate.
+    /// The angle of a periodic term: its phase, and its rate times the members, which are days. The phase is in
+    /// ten-millionths, the rate in ten-millionths a century. So the rounding of centuries isn't multiplied by a rate.
     #[inline(always)]
     fn angle(self, phase: i64, rate: i64) -> Self
         ensures encloses { Encloses1 shown BITS (λ x. add_of (constant (ten_millionths phase))
@@ -131,17 +131,17 @@ pub trait Enclosure: Copy + Drop {
     fn square(self) -> Self
         ensures encloses { Encloses1 shown BITS (λ x. power x 2) self result };
 
-    /// The roots of the members. A negative end counts as 0.
+    /// The roots of the members. A negative endpoint counts as 0.
     fn root(self) -> Self
         ensures encloses { Encloses1 shown BITS root_of self result };
 
-    /// The members, each end moved into -1..1; all of -1..1, where nothing is known.
+    /// The members, each endpoint moved into -1..1; all of -1..1, where nothing is known.
     fn clamp_unit(self) -> Self
         ensures encloses { Encloses1 shown BITS clamp_of self result };
 
-    // A formula that is evaluated at points, as a sine at the ends of its degrees, takes ends and
-    // gives ends back by `from_span`: so it is the same for every kind.
-    /// The ends, at one scale for every kind; `None` for every number.
+    // A formula that is evaluated at points, as a sine at the endpoints of its degrees, takes endpoints and
+    // gives endpoints back by `from_span`: so it is the same for every kind.
+    /// The endpoints, at one scale for every kind; `None` for every number.
     fn span(self) -> Option<Span>
         ensures holds { IfSome result (λ s. shown self ⊆ between (units_of_56 s.lo)
             (units_of_56 s.hi)) }
@@ -150,7 +150,7 @@ pub trait Enclosure: Copy + Drop {
         ensures none { IsNone result → shown self ≡ everything };
 
     // Two kinds of tests: a cell has a whole number for its answer, a comparison a truth value. The
-    // clause `undecided` holds the ends at which it is open, so that giving up at once is no way
+    // clause `undecided` holds the endpoints at which it is undecided, so that giving up at once is no way
     // out.
     /// Whether each member is below each of the other, where that is so of all or of none. The test counts in the
     /// trail. `Undecided` comes exactly where it is so of some.
@@ -170,8 +170,8 @@ pub trait Enclosure: Copy + Drop {
         ensures counted { trail.new.count ≡ next_turn trail.old.count };
 
     /// What the members are above the greatest multiple of the modulus that is not above them, where that is the
-    /// same for all. The test counts in the trail. `Undecided` comes exactly where it isn't: where the ends lie in
-    /// different periods, or nothing is known.
+    /// same for all. The test counts in the trail. `Undecided` comes exactly where it isn't: where the endpoints lie
+    /// in different periods, or nothing is known.
     fn wrap(self, modulus: u32, site: Site, trail: &mut Trail) -> Result<Self, Undecided>
         requires { 0 < modulus }
         ensures decided { IfOk result (λ y. IsSome (cell_at (multiples modulus) (shown self))) }

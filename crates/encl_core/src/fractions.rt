@@ -1,4 +1,4 @@
-//! Fractions as ends that count 2⁻³⁶, rounded outwards.
+//! Fractions as endpoints in units of 2⁻³⁶, rounded outwards.
 ghost use Rattle.std.specs.Prelude.{◌≡◌, ℕ, ◌*◌, ◌^◌, ◌<◌};
 ghost use Rattle.book_model.specs.Interval.{◌⊆◌, between};
 ghost use Rattle.book_model.specs.numbers.Fractions.{fraction_of};
@@ -21,7 +21,7 @@ fn units_of(den: u64) -> u64
     }
 }
 
-/// The ends around a fraction whose denominator is so many times 2³⁶.
+/// The endpoints around a fraction whose denominator is so many times 2³⁶.
 #[inline(always)]
 fn fine_ends(value: Frac, units: u64) -> Option<Ends<i64>>
     requires some { 0 < units }
@@ -35,8 +35,8 @@ fn fine_ends(value: Frac, units: u64) -> Option<Ends<i64>>
     ends_of(floor_div(parts, units), ceil_div(parts, units))
 }
 
-/// The ends around a fraction. Where the denominator holds the scale, as that of a number that counts 2⁻⁵⁶ does,
-/// the numbers to divide stay small.
+/// The endpoints around a fraction. Where the denominator holds the scale, as that of a number in units of 2⁻⁵⁶
+/// does, the numbers to divide stay small.
 #[inline(always)]
 pub(crate) fn frac_ends(value: Frac) -> Option<Ends<i64>>
     ensures holds { between (fraction_of value) (fraction_of value) ⊆ shown_ends result }

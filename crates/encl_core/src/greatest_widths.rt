@@ -3,7 +3,7 @@
 // Rows, since clauses and a test read them. What a call keeps beyond its row stands in its own
 // clause (`wide`): phases and longitudes of the moon are narrow also of moments at which their
 // failures aren't close.
-/// How wide an answer is at most: the width of the argument times a fraction, rounded down, and a slack. Widths count 2⁻⁶⁴.
+/// How wide an answer is at most: the width of the argument times a fraction, rounded down, and a slack. Widths are in units of 2⁻⁶⁴.
 #[derive(Clone, Copy)]
 pub struct WidthRow {
     pub numerator: u64,
@@ -11,7 +11,7 @@ pub struct WidthRow {
     pub slack: u64,
 }
 
-/// The correction of a year, in days: 2⁻⁴⁷.
+/// ΔT of a year, in days: 2⁻⁴⁷.
 #[rattlefmt::skip]
 pub const CORRECTION: WidthRow = WidthRow { numerator: 0, denominator: 1, slack: 131_072 };
 
@@ -59,7 +59,7 @@ pub const SIDEREAL: WidthRow = WidthRow { numerator: 362, denominator: 1, slack:
 #[rattlefmt::skip]
 pub const TWILIGHT: WidthRow = WidthRow { numerator: 1, denominator: 20, slack: 4_294_967_296 };
 
-/// The moment that a bisection finds, by the width of the wider of its ends: that, and 2⁻⁴⁰.
+/// The moment that a bisection finds, by the width of the wider of its bounds: that, and 2⁻⁴⁰.
 #[rattlefmt::skip]
 pub const BISECTION: WidthRow = WidthRow { numerator: 1, denominator: 1, slack: 16_777_216 };
 

@@ -4,18 +4,18 @@
 //! the enclosures decide it; where they don't, it says which test that was and what the enclosures were.
 //!
 //! - `Enclosure`: the trait, with the clauses that formulas are proved from;
-//! - `Trail`: the count of the tests of a run, and what it keeps of what it may ask again (`Asked`);
-//! - `Coarse`: the first kind, by ends in 64 bits that count 2⁻³⁶;
+//! - `Trail`: the count of the tests of a run, and what it caches of what it may ask again (`Asked`);
+//! - `Coarse`: the first kind, by endpoints of 64 bits in units of 2⁻³⁶;
 //! - `floor_step`, `less_step` and `wrap_step`: the tests as steps of a formula's program;
 //! - `first_day`: the search for the first day of which a `DayTest` is true;
 //! - `lies_within`: whether an enclosure lies within another;
 //! - `greatest_widths`: how wide the results of formulas are at most, a row for each;
-//! - `parts`, `high_half`, `modulo`, `amod`: of `interval_ends`, given on to the formulas above.
+//! - `parts`, `high_half`, `modulo`, `amod`: of `interval_ends`, re-exported to the formulas above.
 //!
 //! Widths through tests are said at the scale 2⁻⁵⁶ alone, for all widths of the argument (`Measured` of `Widths.antt`). That a
-//! failure's ends are close doesn't speak of the program, and so passes through `?`. Lemmas lead from the computed bound of an
+//! failure's bounds are close doesn't speak of the program, and so passes through `?`. Lemmas lead from the computed bound of an
 //! expression to the width of what is enclosed (`Measuring`, `Covering`, `WaveCovers`), and from the widths of a test's sides to
-//! how far apart its ends lie where it is open (`Closing`).
+//! how far apart its endpoints lie where it is undecided (`Closing`).
 #![tactic(auto)]
 
 mod asked;

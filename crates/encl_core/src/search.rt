@@ -20,7 +20,7 @@ pub trait DayTest<E: Enclosure> {
     /// The test of a day, as a formula.
     ghost test_of: { Self → ℤ → Program Bool };
 
-    // That may hang on the location that the test keeps, or on the century.
+    // That may depend on the location that the test keeps, or on the century.
     /// Of which test and day its failures are known to be close at the scale 2⁻⁵⁶.
     ghost near_on: { Self → ℤ → Type 0 };
 

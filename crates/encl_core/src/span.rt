@@ -1,7 +1,7 @@
-//! The ends of an enclosure at one scale for all kinds.
+//! The endpoints of an enclosure at one scale for all kinds.
 ghost use Rattle.std.specs.Prelude.{◌≤ℤ◌};
 
-/// Two ends in order, which count 2⁻⁵⁶.
+/// Two endpoints in order, in units of 2⁻⁵⁶.
 #[derive(Clone, Copy, Debug, PartialEq)]
 pub struct Span {
     pub lo: i128,

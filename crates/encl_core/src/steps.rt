@@ -13,7 +13,7 @@ use crate::{Enclosure, Trail};
 use book_model::{Fail, Site};
 
 /// The greatest whole number that is not above an enclosed number, as a test at a site. It fails exactly where the
-/// enclosure leaves the test open, and is never void.
+/// enclosure leaves the test undecided, and is never void.
 pub fn floor_step<E: Enclosure>(x: E, site: Site, trail: &mut Trail) -> Result<i64, Fail>
     ensures leads { Decides1 E.shown (λ e. cell site integers e answer) x trail.old.count
         trail.new.count result }
@@ -30,7 +30,7 @@ pub fn floor_step<E: Enclosure>(x: E, site: Site, trail: &mut Trail) -> Result<i
 }
 
 /// Whether an enclosed number is below another, as a test at a site. It fails exactly where the enclosures leave the
-/// test open, and is never void.
+/// test undecided, and is never void.
 pub fn less_step<E: Enclosure>(x: E, y: E, site: Site, trail: &mut Trail) -> Result<bool, Fail>
     ensures leads { Decides2 E.shown (λ e f. compare site e f answer) x y trail.old.count
         trail.new.count result }
@@ -47,7 +47,7 @@ pub fn less_step<E: Enclosure>(x: E, y: E, site: Site, trail: &mut Trail) -> Res
 }
 
 /// What an enclosed number is above the greatest multiple of the modulus that is not above it, as a test at a site. It
-/// fails exactly where the enclosure leaves the test open, and is never void.
+/// fails exactly where the enclosure leaves the test undecided, and is never void.
 pub fn wrap_step<E: Enclosure>(x: E, modulus: u32, site: Site, trail: &mut Trail) -> Result<E, Fail>
     requires { 0 < modulus }
     ensures leads { Follows1 E.shown (λ e. cell site (multiples modulus) e

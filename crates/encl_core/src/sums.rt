@@ -8,8 +8,8 @@ ghost use Rattle.book_model.specs.numbers.Depth.{DEPTH};
 
 use crate::Enclosure;
 
-// One definition (`Terms.antt`) and one loop serve the sun's waves, the moon's terms and those of a
-// new moon.
+// One definition (`Terms.antt`) and one loop serve the sun's periodic terms, the moon's terms and
+// those of a new moon.
 /// A row of a table over which a formula sums: what it adds, given what the angles or the time are.
 pub trait Term<A: Copy, E: Enclosure> {
     /// What stands in the definition for what is given: an expression, or several.
@@ -24,7 +24,7 @@ pub trait Term<A: Copy, E: Enclosure> {
     /// What the row adds, as an expression of the definition.
     ghost term_of: { Self.Given → Self → Expression };
 
-    // Of this one the width is told. The two differ for the sun's waves alone.
+    // Of this one the width is told. The two differ for the sun's periodic terms alone.
     /// The same expression in the form in which it is computed.
     ghost computed_of: { Self.Given → Self → Expression };
 

@@ -8,8 +8,8 @@ use crate::Span;
 use crate::asked::Asked;
 use crate::kept::Kept;
 
-/// How many tests a run has made, and what it keeps: the new moon of number 0, some of the last other new moons, and the correction
-/// of the last year, each at its place (`Asked`). The count stops at the greatest `u32`. What is kept is only ever what the run would
+/// How many tests a run has made, and what it caches: the new moon of number 0, some of the last other new moons, and ΔT of the
+/// last year, each at its place (`Asked`). The count stops at the greatest `u32`. What is cached is only ever what the run would
 /// evaluate anew, so it changes no answer; and it is taken only by enclosures of the scale at which it was evaluated.
 #[derive(Drop)]
 pub struct Trail {
@@ -18,7 +18,7 @@ pub struct Trail {
 }
 
 impl Trail {
-    /// The trail of a run that has made no test, and keeps nothing.
+    /// The trail of a run that has made no test, and caches nothing.
     pub fn new() -> Self
         ensures empty { result.count ≡ 0 }
     {
@@ -28,9 +28,9 @@ impl Trail {
         }
     }
 
-    // The evaluator has one trail for each scale, which keeps the new moon of number 0 and from
+    // The evaluator has one trail for each scale, which caches the new moon of number 0 and from
     // which each run begins.
-    /// The trail of another run, which has made no test, and keeps what this one does.
+    /// The trail of another run, which has made no test, and caches what this one does.
     pub fn anew(&self) -> Self
         ensures empty { result.count ≡ 0 }
     {
@@ -72,8 +72,8 @@ impl Trail {
         result
     }
 
-    /// The ends of what is asked, if they are kept at scale 2 to the power of minus `bits`. Who takes them counts the tests that they
-    /// were evaluated by.
+    /// The endpoints of what is asked, if they are cached at scale 2 to the power of minus `bits`. Who takes them counts the tests
+    /// that they were evaluated by.
     pub fn kept(&self, asked: Asked, bits: u32) -> Option<Span>
         ensures evaluated { IfSome result (IsKept (tests_of asked) (program_of asked)) }
         ensures measured { IfSome result (IsKeptWithin asked bits) }
@@ -81,9 +81,9 @@ impl Trail {
         self.kept[asked.place()]?.at(asked, bits)
     }
 
-    // It asks for ends that were evaluated: what a trail keeps says by its type that it is right.
-    /// Keeps the ends of what is asked, as enclosures at scale 2 to the power of minus `bits` gave them, if they did, in place of what
-    /// was kept there.
+    // It asks for endpoints that were evaluated: what a trail caches says by its type that it is right.
+    /// Caches the endpoints of what is asked, as enclosures at scale 2 to the power of minus `bits` gave them, if they did, in place of
+    /// what was cached there.
     pub fn keep(&mut self, asked: Asked, bits: u32, ends: Option<Span>)
         requires evaluated { IfSome ends (IsKept (tests_of asked) (program_of asked)) }
         requires measured { IfSome ends (IsKeptWithin asked bits) }

@@ -1,4 +1,4 @@
-//! The angle of a wave, of ends that count 2⁻³⁶.
+//! The angle of a periodic term, of endpoints in units of 2⁻³⁶.
 ghost use Rattle.std.specs.Prelude.{◌≡◌, ℕ, pos, neg_ℤ, ◌^◌, ◌*ℤ◌, ◌+ℤ◌, ◌≤ℤ◌};
 ghost use Rattle.book_model.specs.Interval.{◌⊆◌, sum, product, between};
 ghost use Rattle.book_model.specs.numbers.Bounds.{Bound, IsNarrow, sum_bound, constant_bound, scaled_bound, limits_36};
@@ -10,7 +10,7 @@ use interval_ends::{Ends, ceil_div, ends_of, floor_div, sorted};
 /// What a rate of ten-millionths a century is counted by in a day.
 const DAILY: i128 = 365_250_000_000;
 
-/// The product of an end and a rate.
+/// The product of an endpoint and a rate.
 #[inline(always)]
 fn product_of(a: i64, b: i64) -> i128
     ensures value { result ≡ a *ℤ b }
@@ -21,7 +21,7 @@ fn product_of(a: i64, b: i64) -> i128
 
 // The factor is 2³⁶ times 36,525 days: both parts over one denominator, so that one quotient rounds
 // them.
-/// A phase of ten-millionths and the rate times an end, by that number.
+/// A phase of ten-millionths and the rate times an endpoint, by that number.
 #[inline(always)]
 fn turned(end: i64, phase: i64, rate: i64) -> i128
     ensures value { result ≡ phase *ℤ pos 2509978887782400 +ℤ end *ℤ rate }
@@ -29,8 +29,8 @@ fn turned(end: i64, phase: i64, rate: i64) -> i128
     i128::from(phase) * 2_509_978_887_782_400 + product_of(end, rate)
 }
 
-/// The ends around a phase of ten-millionths and a rate of so many a century times the members, which are days: one
-/// quotient at each end.
+/// The endpoints around a phase of ten-millionths and a rate of so many a century times the members, which are
+/// days: one quotient at each endpoint.
 #[inline(always)]
 pub(crate) fn angle_ends(x: Option<Ends<i64>>, phase: i64, rate: i64) -> Option<Ends<i64>>
     ensures holds { sum (between (ten_millionths phase) (ten_millionths phase))

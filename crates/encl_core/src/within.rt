@@ -5,7 +5,7 @@ ghost use Rattle.encl_core.specs.Kept.{shown_span};
 
 use crate::{Enclosure, Span};
 
-/// Whether two ends lie between two others.
+/// Whether two endpoints lie between two others.
 #[tactic(auto, using(crate::proofs::Between::span_within))]
 fn are_between(inner: Span, outer: Span) -> bool
     ensures within { IsTrue result → shown_span inner ⊆ shown_span outer }
@@ -13,7 +13,7 @@ fn are_between(inner: Span, outer: Span) -> bool
     outer.lo <= inner.lo && inner.hi <= outer.hi
 }
 
-/// Whether two ends lie within an enclosure.
+/// Whether two endpoints lie within an enclosure.
 #[tactic(auto, using(crate::proofs::Between::then_within, crate::proofs::Between::within_all))]
 fn ends_within<E: Enclosure>(inner: Span, outer: E) -> bool
     ensures within { IsTrue result → shown_span inner ⊆ E.shown outer }

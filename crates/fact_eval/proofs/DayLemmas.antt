@@ -33,7 +33,7 @@ day_not_of_year shown bits d e f p q h n o =
     let y = year_small d h in
     none_early f (closed_year (shown e) (year_of_day d) f (year_enclosed shown bits d e p q h (n _)) (omega (arith, ints, y.0, y.1)) o)
 
--- nor is an open rounding, or a void
+-- nor is an undecided rounding, or a void
 pub round_not_of_year : (i : Interval) (f : Fail) → IsOpenFloor i Round f → IsNoEarlyYear f
 round_not_of_year i (undecided_at u) o = λ e t. let r = o.1 in absurd (cc)
 round_not_of_year i (Void s) o = tt
@@ -47,7 +47,7 @@ sun_is_value d (Ok v) b a h = let z = sun_value (at_depth 40) d v (leads_value (
     (omega (arith, ints, z.0), omega (arith, ints, z.1))
 sun_is_value d (Err f) b a h = tt
 
--- so is that of the correction
+-- so is that of ΔT
 pub dt_is_value : (d : ℤ) (r : Result ℤ Fail) (b a : ℕ) → IsValueDay d → ((w : World) → 40 ≤ w.depth → Leads w Exact (dt_of d) b a r) → IfOk r IsFactValue
 dt_is_value d (Ok v) b a l h = dt_value (at_depth 40) d v l (leads_value (h (at_depth 40) (omega arith)))
 dt_is_value d (Err f) b a l h = tt

@@ -141,7 +141,7 @@ row_small [] n h = refl
 row_small (r ∷ rows) zero h = (both _ _ h).0
 row_small (r ∷ rows) (suc n) h = row_small rows n (both _ _ h).1
 
--- what a row comes to at most
+-- the greatest size of a row
 abbrev least_term : ℤ
 least_term = neg_ℤ (pos 84000000)
 

@@ -100,7 +100,7 @@ milliseconds_reach : implies (bound_of (limits_at 56) correction_bounds (rounded
 unfolding implies bound_of constant_bound sum_bound scaled_bound
 milliseconds_reach = refl
 
--- a correction in milliseconds, and a half
+-- ΔT in milliseconds, and a half
 pub milliseconds_within : {E : Type 0} (shown : E → Interval) (n v : ℕ) (d y : E) → n ≡ 56 → IsCorrection v (shown d)
     → ((r : Reach) (x : Expression) → Narrow shown (limits_of n) r x d → Narrow shown (limits_of n) r (rounded_expression x) y)
     → IsAbout (2 ^ 90) (86400000 * v + 2 ^ 10) (shown y)

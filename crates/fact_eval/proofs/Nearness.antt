@@ -1,4 +1,4 @@
--- A test that the code leaves open is near: its sides lie within the ends, and so does a threshold.
+-- A test that the code leaves undecided is near: its sides lie within the bounds, and so does a threshold.
 use Rattle.std.specs.Prelude.{◌≡◌, ℕ, suc, ◌-◌, ◌^◌, ◌≤◌, ◌-ℤ◌, ℤ, pos, ◌+ℤ◌, ◌*ℤ◌, ◌≤ℤ◌, Option, Some, None, Bool, true, false, refl}
 use Rattle.std.proofs.Common.{[], ◌∷◌, arith}
 use Rattle.std.proofs.lemmas.Int.{ints, by_lt_z}
@@ -87,7 +87,7 @@ threshold_between g a b lo hi p e l h = record {
         (λ l. let z : cell_of g a ≡ cell_of g b = omega (arith, ints) in absurd (apart _ refl e z))
 
 -- without bounds there is a threshold
--- ---- the ends that stand for no bounds are too far apart to be near
+-- ---- the bounds that stand for an unbounded test are too far apart to be near
 far_apart : (lo hi : ℤ) (m : ℕ) → m ≤ 2 ^ 44 → ((hi -ℤ lo) *ℤ pos 256) ≤ℤ pos m → AreNoBounds lo hi → ⊥
 far_apart lo hi m s h n = omega (arith, ints, n.least, n.greatest)
 
@@ -100,7 +100,7 @@ proper_outside : (i : Interval) (a b : Fraction) → IsProper i → AreWithin i 
 proper_outside everything a b p h = absurd h
 proper_outside (between c d) a b p h = le_trans _ _ _ h.0 (le_trans _ _ _ p h.1)
 
--- ends that are so near
+-- bounds that are so near
 abbrev pub AreNearBy : ℕ → (lo hi : ℤ) → Type 0
 AreNearBy m lo hi = (m ≤ 2 ^ 44) × (((hi -ℤ lo) *ℤ pos 256) ≤ℤ pos m)
 
@@ -126,7 +126,7 @@ hull_holds_second everything j = within_everything _
 hull_holds_second (between a b) everything = within_everything _
 hull_holds_second (between a b) (between c d) = record { ends = (smaller_second a c, larger_second b d) }
 
--- no test may be left open over ends further apart than a 2^20th
+-- no test may be left undecided over bounds further apart than a 2^20th
 pub site_allows : (s : Site) → most_apart s ≤ 2 ^ 44
 site_allows Year = omega arith
 site_allows Zone = omega arith
@@ -151,7 +151,7 @@ site_allows Crescent = omega arith
 site_allows Sidereal = omega arith
 site_allows Rise = omega arith
 
--- the sides of an open test whose ends are close are near
+-- the sides of an undecided test whose bounds are close are near
 pub near_open : (lo hi : ℤ) (s : Sides) {m : ℕ} → AreNearBy m lo hi → AreProper s → IsOpen s lo hi → AreNear lo hi s
 near_open lo hi (one_side g i) c p (open_cell j h k) = near_open_cell g i j lo hi c p h k
 near_open lo hi (two_sides i j) c p (open_comparison k l h m o) =

@@ -46,7 +46,7 @@ of_other_days k (Err (undecided_at u)) h = λ e w. none (whole_days k) u.turn h 
     none Everywhere n e w = absurd (cc)
 of_other_days k (Err (Void s)) h = tt
 
--- the kinds of which the first and the third test of the year are made on the day itself, and never open
+-- the kinds of which the first and the third test of the year are made on the day itself, and never undecided
 pub of_days : (k : Kind) (r : Result ℤ Fail) → whole_days k ≡ AtFirst → IfErr r IsNoEarlyYear → IfErr r (IsNoWholeDay k)
 of_days k (Ok v) a h = tt
 of_days k (Err (undecided_at u)) a h = λ e w. h e (early (whole_days k) u.turn a w)
@@ -62,7 +62,7 @@ of_days k (Err (undecided_at u)) a h = λ e w. h e (early (whole_days k) u.turn 
     early Everywhere n e w = absurd (cc)
 of_days k (Err (Void s)) a h = tt
 
--- a kind of which no test of a year is open
+-- a kind of which no test of a year is undecided
 pub of_all_days : (k : Kind) (r : Result ℤ Fail) → whole_days k ≡ Everywhere → IfErr r IsNotOfYear → IfErr r (IsNoWholeDay k)
 of_all_days k (Ok v) a h = tt
 of_all_days k (Err (undecided_at u)) a h = λ e w. h e
@@ -86,7 +86,7 @@ close_answer (Ok v) h = tt
 close_answer (Err (Void s)) h = tt
 close_answer (Err (undecided_at u)) (close_test h) = h
 
--- what an evaluation that began with no test counted gives is right, wherever the ends of an open test are close
+-- what an evaluation that began with no test counted gives is right, wherever the bounds of an undecided test are close
 pub right_result : (f : Fact) (t : Result ℤ Fail) (a : ℕ) → ((w : World) → 40 ≤ w.depth → Leads w Exact (program_of f) 0 a t) → IfOk t IsFactValue
     → IfErr t (IsNoWholeDay f.kind)
     → IsCloseAnswer (answer_of t) → IsRightAnswer f (answer_of t)

@@ -53,7 +53,7 @@ sun_in_table : (w : World) (x s : Expression) → outcome (run w (sun_of x)) ≡
 unfolding sun_of
 sun_in_table w x s h = let c = parts w (centuries_of x) _ s h in dated_in_table w x c.part c.first
 
--- from where to where the search sets out and comes to: a year later at most, and five days
+-- from where the search sets out, and where it ends: a year later at most, and five days
 abbrev pub earliest : ℤ
 earliest = TABLE_START -ℤ pos 79
 

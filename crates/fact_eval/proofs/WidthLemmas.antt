@@ -1,4 +1,4 @@
--- The bound of a correction that is about to be rounded, computed for each scale, and what it says of an open test
+-- The bound of ΔT that is about to be rounded, computed for each scale, and what it says of an undecided test
 -- and of a value.
 use Rattle.std.specs.Prelude.{◌≡◌, ℕ, ◌+◌, ◌-◌, ◌*◌, ◌^◌, ◌≤◌, ℤ, pos, negsuc, ◌-ℤ◌, ◌*ℤ◌, ◌≤ℤ◌, Bool, true, false, Option, Some, None, IfSome, FitsSigned, refl}
 use Rattle.std.specs.List.{list_all}
@@ -32,7 +32,7 @@ use Rattle.fact_eval.specs.Widths.{rounded_expression, AreCloseBy, IsCloseFor}
 abbrev rounded_within : ℕ → Bound
 rounded_within m = bounded (negsuc (10000000 * 2 ^ 32 - 1)) (pos (10000000 * 2 ^ 32)) 0 m
 
--- the width of what is rounded for a correction of so many units of 2^-bits
+-- the width of what is rounded for ΔT of so many units of 2^-bits
 abbrev pub apart_by : (units bits : ℕ) → ℕ
 apart_by units bits = (86400000 * units + 3) * 2 ^ (64 - bits)
 
@@ -82,7 +82,7 @@ year_fits n y a b = by (row_of_year y) refl
     by None e = tt
     by (Some row) e = units_fit n row.units a b (year_row fits_scales y row scales_fit e).passes
 
--- what is rounded for a correction of so many units keeps the bound
+-- what is rounded for ΔT of so many units keeps the bound
 fitting_narrow : {E : Type 0} (shown : E → Interval) (n u : ℕ) (d e : E) → FitsScale u n → IsNarrow 0 (correction_bound u n) (shown d)
     → ((r : Reach) (x : Expression) → Narrow shown (limits_of n) r x d → Narrow shown (limits_of n) r (rounded_expression x) e)
     → IsNarrow 0 (rounded_bound u n) (shown e)
@@ -140,7 +140,7 @@ close_ends : (m : ℕ) (a b : Fraction) (lo hi : ℤ) → units_of_56 lo ≈ a �
 unfolding IsNarrow
 close_ends m a b lo hi l r h = le_trans _ _ _ (le_of_same r) (le_trans _ _ _ h.close (plus_mono _ _ _ _ (ge_of_same l) (le_refl _)))
 
--- the ends of an open floor of what keeps the bound are no further apart than it is wide
+-- the bounds of an undecided floor of what keeps the bound are no further apart than it is wide
 open_floor_close : (m : ℕ) (i : Interval) (lo hi : ℤ) → IsNarrow 0 (rounded_within m) i → IsOpenCell integers i lo hi → ((hi -ℤ lo) *ℤ pos 256) ≤ℤ pos m
 open_floor_close m i lo hi h (too_far q e f b) = absurd (f (value_fits q (floor_is_value m i q h e)))
 open_floor_close m everything lo hi h (between_cells e k) = absurd (nothing_narrow m h)
@@ -152,12 +152,12 @@ close_by n i None f h o = tt
 close_by n i (Some u) (undecided_at x) h o = open_floor_close (apart_by u n) i x.lo x.hi h o.0
 close_by n i (Some u) (Void s) h o = tt
 
--- an open floor of what keeps the bound that the table promises lies within its units
+-- an undecided floor of what keeps the bound that the table promises lies within its units
 pub close_round : (n : ℕ) (i : Interval) (y : ℤ) (f : Fail) → IfSome (units_of_year y) (λ u. IsNarrow 0 (rounded_bound u n) i) → IsOpenFloor i Round f
     → IsCloseFor n y f
 close_round n i y f h o = close_by n i (units_of_year y) f h o
 
--- a void is no open test
+-- a void is no undecided test
 void_by : (n : ℕ) (o : Option ℕ) (f : Fail) → f ≡ Void Year → IfSome o (λ u. AreCloseBy n u f)
 void_by n None f e = tt
 void_by n (Some u) f e = rw e tt

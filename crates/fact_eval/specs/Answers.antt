@@ -13,17 +13,17 @@ answer_of (Ok v) = Value v
 answer_of (Err (undecided_at u)) = Undecided u
 answer_of (Err (void_at s)) = Void s
 
--- an answer is no open test, or one whose ends are close
+-- an answer is no undecided test, or one whose bounds are close
 abbrev pub IsCloseAnswer : Answer → Type 0
 IsCloseAnswer (Value v) = Unit {0}
 IsCloseAnswer (Undecided u) = AreClose u
 IsCloseAnswer (Void s) = Unit {0}
 
--- the ends of an open test are at most a 2^24th apart, as every site allows
+-- the bounds of an undecided test are at most a 2^24th apart, as every site allows
 abbrev pub AreCloseAnywhere : OpenTest → Type 0
 AreCloseAnywhere u = (u.hi -ℤ u.lo) ≤ℤ pos (2 ^ 32)
 
--- an answer is no open test, or one whose ends are close at every site
+-- an answer is no undecided test, or one whose bounds are close at every site
 abbrev pub IsCloseAnywhere : Answer → Type 0
 IsCloseAnywhere (Value v) = Unit {0}
 IsCloseAnywhere (Undecided u) = AreCloseAnywhere u

@@ -15,7 +15,7 @@ next_equinox_of d = sun_from_of (integer (pos 0)) (integer d)
 unfoldable pub nisan_on_of : Location → ℤ → Expression → Program ℤ
 nisan_on_of p f x = bind (is_before_sunset_of p x f) λ before. sight_from_of p (nisan_start f before)
 
--- a day of the equinox that is next from a day of the years of which there are corrections
+-- a day of the equinox that is next from a day of the years of which ΔT is known
 pub record IsEquinoxDay (f : ℤ) : Type 0 where
   pub from : (TABLE_START -ℤ pos 79) ≤ℤ f
   pub to : f ≤ℤ (TABLE_END +ℤ pos 451)

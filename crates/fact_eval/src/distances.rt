@@ -14,8 +14,8 @@ use book_model::Fail;
 use encl_core::{Enclosure, Trail};
 use moon_rise::distance;
 
-/// The distance of the moon's centre from the earth's at 0 h universal time of a day (R.D.), in kilometres, rounded: two tests, of which
-/// that of the year is never open. It is void at `year` in a year without a correction.
+/// The distance of the moon's centre from the earth's at 0 h universal time of a day (R.D.), in kilometres, rounded: two tests, of
+/// which that of the year is never undecided. It is void at `year` in a year without ΔT.
 #[tactic(auto, using(book_model::proofs::Leads::leading))]
 pub(crate) fn distance_in_kilometres<E: Enclosure>(day: i64, trail: &mut Trail) -> Result<i64, Fail>
     requires day { IsValueDay day }

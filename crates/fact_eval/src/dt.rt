@@ -1,4 +1,4 @@
-//! The dynamical time correction of a day, in milliseconds.
+//! ΔT, dynamical less universal time, of a day, in milliseconds.
 ghost use Rattle.book_model.specs.programs.Calls.{Decides};
 ghost use Rattle.book_model.specs.programs.Widths.{IsClose};
 ghost use Rattle.std.specs.Prelude.{◌≡◌, ◌≤◌, IfOk, IfErr};
@@ -29,8 +29,8 @@ fn milliseconds<E: Enclosure>(days: E) -> E
     days.mul_frac(MILLISECONDS_OF_DAY).add(E::from_frac(HALF))
 }
 
-/// The dynamical time correction of the year of a day, in milliseconds, rounded: two tests, of which only the second
-/// may be open.
+/// ΔT, dynamical less universal time, of the year of a day, in milliseconds, rounded: two tests, of which only the
+/// second may be undecided.
 #[tactic(auto, using(book_model::proofs::Leads::leading), unfolding(book_model::specs::sky::Kinds::dt_of, book_model::specs::sky::Correction::rounded_of))]
 pub(crate) fn dt<E: Enclosure>(day: i64, trail: &mut Trail) -> Result<i64, Fail>
     requires day { IsValueDay day }

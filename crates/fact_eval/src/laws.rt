@@ -1,7 +1,7 @@
 //! A law of the definitions of facts, carried by a function that does nothing.
 //!
 //! How many tests a formula makes is said of the definitions and not by the calls: what a call says of its program
-//! fixes the count at its answer, at a stop and at a void (`Counts.antt` of book_model).
+//! fixes the count at its answer, at an early return and at a void (`Counts.antt` of book_model).
 ghost use Rattle.std.specs.Prelude.{ℕ, ℤ, ◌≤◌};
 ghost use Rattle.book_model.specs.declared.fact.Fact.{Fact};
 ghost use Rattle.book_model.specs.declared.fact.Kind.{Kind};

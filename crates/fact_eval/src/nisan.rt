@@ -102,9 +102,9 @@ fn nisan_at<E: Enclosure>(
 }
 
 /// The first day (R.D.) of Nisan at a place about the spring equinox that is next from a day on: the month about the equinox, by when
-/// the sun sets on the day of the equinox and by the first sight of the crescent (Reingold and Dershowitz, Calendrical Calculations,
-/// chapter 18). It is void at `search` where no crescent is found, at `year` where the place has no location, and where one of the
-/// formulas is. Its first and third tests, of the year of the day itself, are never open.
+/// the sun sets on the day of the equinox and by the first visibility of the crescent (Reingold and Dershowitz, Calendrical
+/// Calculations, chapter 18). It is void at `search` where no crescent is found, at `year` where the place has no location, and where
+/// one of the formulas is. Its first and third tests, of the year of the day itself, are never undecided.
 #[tactic(auto, using(book_model::proofs::Leads::leading), unfolding(book_model::specs::sky::Kinds::located))]
 pub(crate) fn nisan<E: Enclosure>(
     course: &PhaseCourse<E>,

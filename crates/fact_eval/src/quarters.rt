@@ -1,4 +1,4 @@
-//! The days of new moon, first quarter, full moon and last quarter, and of the first sight of the crescent.
+//! The days of new moon, first quarter, full moon and last quarter, and of the first visibility of the crescent.
 ghost use Rattle.book_model.specs.programs.Calls.{Decides};
 ghost use Rattle.book_model.specs.programs.Widths.{IsClose, IsSmall};
 ghost use Rattle.std.specs.Prelude.{◌≡◌, ◌≤◌, IfOk, IfErr};

@@ -97,7 +97,8 @@ fn stands_at<E: Enclosure>(side: Side, t: E, trail: &mut Trail) -> Result<bool, 
     is_on_side(side, longitude, trail)
 }
 
-/// The same by the course of the sun over all days. Where it answers it has made the tests of `stands_at`; a failure says nothing.
+/// The same by the linear model of the sun over all days. Where it answers it has made the tests of `stands_at`; a failure says
+/// nothing.
 fn stands_near<E: Enclosure>(
     course: &SunCourse<E>,
     side: Side,
@@ -130,8 +131,8 @@ fn stands_tried<E: Enclosure>(
     )
 }
 
-/// Whether the sun stands on a side at a moment: by its course where that decides it, as it does but within hours of the ends of the
-/// side, and else by its longitude at the moment.
+/// Whether the sun stands on a side at a moment: by its linear model where that decides it, as it does but within hours of the
+/// bounds of the side, and else by its longitude at the moment.
 fn stands<E: Enclosure>(
     course: &SunCourse<E>,
     side: Side,
@@ -192,7 +193,7 @@ fn last_passage<E: Enclosure, M: DayMoment<E>>(
     estimate(E::from_int(longitude), there, trail)
 }
 
-// It may set out from anywhere in the years of which there is a correction: that bound holds
+// It may set out from anywhere in the years of which ΔT is known: that bound holds
 // whatever the moment of the day is.
 /// The day (R.D.) of that moment.
 #[tactic(auto, using(book_model::proofs::Leads::leading), unfolding(book_model::specs::sky::Kinds::search_start_of))]

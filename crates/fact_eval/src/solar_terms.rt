@@ -74,7 +74,7 @@ fn longitude_day<E: Enclosure>(
 
 // A floor gives the longitude, a whole number of degrees, which the bisection takes as its angle:
 // so one formula serves both kinds.
-/// The day (R.D.) at a place on which the sun comes to the first of the longitudes of the terms once a day has begun there: those
+/// The day (R.D.) at a place on which the sun reaches the first of the longitudes of the terms once a day has begun there: those
 /// 30 degrees apart, the least of which is `first`, 0 for the major terms and 15 for the minor. 328 tests at most, and those of the
 /// zone (`term_day_few`).
 #[tactic(auto, using(book_model::proofs::Leads::leading), unfolding(book_model::specs::sky::Kinds::term_day_of))]

@@ -32,7 +32,7 @@ use moon_rise::{moonrise, moonset};
 use oracle_core::{Answer, Evaluator};
 
 /// What is evaluated once, before any fact, over enclosures of one kind, and serves every fact: a trail that has made no test and
-/// keeps the new moon of number 0, and the courses of the moon and the sun over the usual days.
+/// caches the new moon of number 0, and the linear models of the moon and the sun over the usual days.
 #[derive(Drop)]
 struct Beginning<E: Enclosure> {
     trail: Trail,
@@ -49,8 +49,8 @@ impl<E: Enclosure> Beginning<E> {
     }
 }
 
-/// Evaluates each fact over coarse enclosures, and over fine ones where these leave a test open. What every fact may ask it has
-/// evaluated once, over both.
+/// Evaluates each fact over coarse enclosures, and over fine ones where these leave a test undecided. What every fact may ask it
+/// has evaluated once, over both.
 #[derive(Drop)]
 pub struct Staged {
     coarse: Beginning<Coarse>,
@@ -125,7 +125,7 @@ fn may_have_value(day: i64) -> bool
     FIRST_DAY <= day && day <= LAST_DAY
 }
 
-/// `evaluate`, where the courses of the moon and the sun are known over the usual days.
+/// `evaluate`, where the linear models of the moon and the sun are known over the usual days.
 fn evaluate_by<E: Enclosure>(
     course: &PhaseCourse<E>,
     fact: Fact,
@@ -144,8 +144,8 @@ fn evaluate_by<E: Enclosure>(
     formula::<E>(course, fact.kind(), fact.place(), day, trail)
 }
 
-/// The value of a fact by its formula over enclosures of one kind. It fails where a test is open, and over enclosures of the scale
-/// 2⁻⁵⁶ the ends of that test are close then; or where the formula is void, as it is outside 1 July 1700 to 31 December 2149.
+/// The value of a fact by its formula over enclosures of one kind. It fails where a test is undecided, and over enclosures of the scale
+/// 2⁻⁵⁶ the bounds of that test are close then; or where the formula is void, as it is outside 1 July 1700 to 31 December 2149.
 pub fn evaluate<E: Enclosure>(fact: Fact, trail: &mut Trail) -> Result<i64, Fail>
     ensures leads { Decides (program_of fact) trail.old.count trail.new.count result }
     ensures value { IfOk result IsFactValue }
@@ -179,10 +179,10 @@ fn answer_from<E: Enclosure>(beginning: &Beginning<E>, fact: Fact) -> Answer
     answer(evaluate_by::<E>(&beginning.course, fact, &mut trail))
 }
 
-// The bounds on values are proved for these scales. What it says of an open test it says of each
-// kind of fact: it is near where its ends are close, which `is_close` tells.
-/// The answer for a fact by enclosures of one kind, with a scale from 2⁻³⁶ to 2⁻⁵⁶. A value and a void are right, and an open
-/// test is wherever its ends are no further apart than its site allows: a 2²⁰th, and a 2²⁴th at the tests of a bisection. At the
+// The bounds on values are proved for these scales. What it says of an undecided test it says of each
+// kind of fact: it is near where its bounds are close, which `is_close` tells.
+/// The answer for a fact by enclosures of one kind, with a scale from 2⁻³⁶ to 2⁻⁵⁶. A value and a void are right, and an undecided
+/// test is wherever its bounds are no further apart than its site allows: a 2²⁰th, and a 2²⁴th at the tests of a bisection. At the
 /// scale 2⁻⁵⁶ they never are further apart.
 pub fn answer_over<E: Enclosure>(fact: Fact) -> Answer
     requires least { 36 ≤ E.BITS }
@@ -193,10 +193,10 @@ pub fn answer_over<E: Enclosure>(fact: Fact) -> Answer
     answer_from::<E>(&Beginning::<E>::new(), fact)
 }
 
-/// How far apart the ends of an open test may lie at every site, in 2⁻⁵⁶: a 2²⁴th.
+/// How far apart the bounds of an undecided test may lie at every site, in 2⁻⁵⁶: a 2²⁴th.
 const CLOSE: i128 = 1 << 32;
 
-/// Whether the ends of an open test are no further apart than every site allows.
+/// Whether the bounds of an undecided test are no further apart than every site allows.
 fn are_close(at: &Undecided) -> bool
     ensures close { IsTrue result → AreClose at.now }
     ensures told { AreCloseAnywhere at.now → IsTrue result }
@@ -207,7 +207,7 @@ fn are_close(at: &Undecided) -> bool
     }
 }
 
-/// Whether an answer is no open test, or one whose ends are no further apart than a 2²⁴th, as every site allows.
+/// Whether an answer is no undecided test, or one whose bounds are no further apart than a 2²⁴th, as every site allows.
 pub fn is_close(answer: &Answer) -> bool
     ensures close { IsTrue result → IsCloseAnswer answer.now }
     ensures told { IsCloseAnywhere answer.now → IsTrue result }
@@ -222,7 +222,7 @@ pub fn is_close(answer: &Answer) -> bool
 impl Evaluator for Staged {
     fn eval(&self, fact: Fact) -> Answer {
         match answer_from::<Coarse>(&self.coarse, fact) {
-            // By the same formulas, and the fine run's answer is the answer: its ends are narrower.
+            // By the same formulas, and the fine run's answer is the answer: its bounds are narrower.
             Answer::Undecided(_) => answer_from::<Fine>(&self.fine, fact),
             decided => decided,
         }

@@ -12,7 +12,7 @@ use encl_core::{Enclosure, Trail, floor_step};
 use moon_core::sun;
 
 /// The longitude of the sun at 0 h universal time of a day, in thousandths of a degree, rounded down: three tests, of
-/// which that of the year is never open.
+/// which that of the year is never undecided.
 #[tactic(auto, using(book_model::proofs::Leads::leading), unfolding(book_model::specs::sky::Kinds::sun_in_thousandths_of))]
 pub(crate) fn sun_in_thousandths<E: Enclosure>(day: i64, trail: &mut Trail) -> Result<i64, Fail>
     requires day { IsValueDay day }

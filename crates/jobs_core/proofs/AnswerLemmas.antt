@@ -22,7 +22,7 @@ pub right_result : (version : Version) (r : Request) (x : Resolved) (es : List (
     → old.asked ≡ [] → new.asked ≡ facts_of es → Inquires by_evaluator (rule_of version r) old new (Ok x) → IsRightForRow version (Ok r) (resolved x es)
 right_result version r x es old new all none asked h = record { at_each_depth = λ n deep. finds n (rule_of version r) es x deep all none asked h }
 
--- an open test at which the oracle stops makes a right outcome
+-- an undecided test at which the oracle returns early makes a right outcome
 right_undecided : (version : Version) (r : Request) (f : Fact) (u : Undecided) (old new : State (Unit {0}))
     → Inquires by_evaluator (rule_of version r) old new (Err (undecided_stop f u)) → IsRightForRow version (Ok r) (undecided f u)
 right_undecided version r f u old new h =
@@ -46,7 +46,7 @@ right_void version r f s old new h =
       rw named here.stop.may,
     )
 
--- what comes of a stop of the oracle is right
+-- what comes of an early return of the oracle is right
 pub right_stop : (version : Version) (r : Request) (s : Stop) (old new : State (Unit {0})) (o : LineOutcome)
     → Inquires by_evaluator (rule_of version r) old new (Err s) → ComesOfStop s o → IsRightForRow version (Ok r) o
 right_stop version r (undecided_stop f u) old new o h e = rw e (right_undecided version r f u old new h)

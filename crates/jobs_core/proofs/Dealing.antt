@@ -1,4 +1,4 @@
--- Places that are dealt to pieces in turn: of those before a place so many went to each piece, and the next one goes on from there.
+-- Places that are dealt to chunks in turn: of those before a place so many went to each chunk, and the next one goes on from there.
 use Rattle.std.proofs.Common.{◌≡◌, ◌∙◌, ℕ, ◌+◌, ◌-◌, ◌*◌, ◌/◌, ◌%◌, ◌<◌, ◌≤◌, ◌⊎◌, inl, inr, nat_lt, if◌then◌else◌, refl, ap, ap₂, sym, arith}
 use Rattle.std.specs.Prelude.{min, ◌≢◌}
 use Rattle.std.proofs.lemmas.Bool.{cases_lt, lt-ltb}
@@ -29,7 +29,7 @@ next_wraps i k some last =
     let left : (i / k + 1) * k + (i + 1) % k ≡ i + 1 = rw quotient at (div-add-mod' (i + 1) k) in
     record { quotient = quotient; remainder = omega (arith, whole, left) }
 
--- ---- how many of the places before i went to piece p
+-- ---- how many of the places before i went to chunk p
 
 -- where all are dealt one by one, as many as its size of i places (`piece_size`); where all are dealt by blocks:
 abbrev by_blocks : (k i p : ℕ) → ℕ
@@ -136,7 +136,7 @@ up_to n k i p some small = by (cases_lt (i + 1) (in_rounds n k))
         let end : i + 1 ≡ n / (k * 16) * (k * 16) = omega arith in
         dealt_past n k (i + 1) ge p ∙ (rw end (same_after (n / (k * 16)) k p some))
 
--- the place is the next of its piece
+-- the place is the next of its chunk
 pub dealt_here : (n k i : ℕ) → dealt n k i (piece_of n k i) ≡ number_of n k i
 dealt_here n k i = by (cases_lt i (in_rounds n k))
   where
@@ -150,7 +150,7 @@ dealt_here n k i = by (cases_lt i (in_rounds n k))
     by (inl lt) = dealt_in n k i lt (piece_of n k i) ∙ ap (λ p. by_blocks k i p) (piece_in n k i lt) ∙ block ∙ sym (number_in n k i lt)
     by (inr ge) = dealt_past n k i ge (piece_of n k i) ∙ ap (λ p. piece_size i k p) (piece_past n k i ge) ∙ single ∙ sym (number_past n k i ge)
 
--- then its piece has one more
+-- then its chunk has one more
 pub dealt_own : (n k i : ℕ) → 0 < k → dealt n k (i + 1) (piece_of n k i) ≡ number_of n k i + 1
 dealt_own n k i some = by (cases_lt i (in_rounds n k))
   where
@@ -188,9 +188,9 @@ dealt_none n k p some = by (cases_lt 0 (in_rounds n k))
         let remainder : 0 % k ≡ 0 = mod-eq_of_lt some in
         dealt_past n k 0 ge p ∙ omega (arith, quotient, remainder)
 
--- ---- a place and its number in its piece
+-- ---- a place and its number in its chunk
 
--- the place that has a place's number in its piece is that place
+-- the place that has a place's number in its chunk is that place
 pub place_back : (n k i : ℕ) → 0 < k → place_at n k (piece_of n k i) (number_of n k i) ≡ i
 place_back n k i some = by (cases_lt i (in_rounds n k))
   where
@@ -206,7 +206,7 @@ place_back n k i some = by (cases_lt i (in_rounds n k))
         let past : n / (k * 16) * 16 ≤ i / k = le-div (n / (k * 16) * 16) i k some (omega (arith, round_places (n / (k * 16)) k)) in
         ap₂ (λ p j. place_at n k p j) (piece_past n k i ge) (number_past n k i ge) ∙ place_past n k _ _ past ∙ div-add-mod' i k
 
--- its piece has so many
+-- its chunk has so many
 pub number_within : (n k i : ℕ) → 0 < k → i < n → number_of n k i < piece_size n k (piece_of n k i)
 number_within n k i some within = by (cases_lt i (in_rounds n k))
   where
@@ -227,7 +227,7 @@ number_within n k i some within = by (cases_lt i (in_rounds n k))
         let there : i / k < piece_size n k (i % k) = single (cases_lt (i / k) (n / k)) in
         omega (arith, number_past n k i ge, piece_past n k i ge)
 
--- each place of a piece is one of all
+-- each place of a chunk is one of all
 pub place_below : (n k p j : ℕ) → 0 < k → p < k → j < piece_size n k p → place_at n k p j < n
 place_below n k p j some within few = by (cases_lt j (n / (k * 16) * 16))
   where
@@ -256,11 +256,11 @@ block_below n k p j some within few small = rw (← place_in n k p j small) (pla
 pub single_below : (n k p j : ℕ) → 0 < k → p < k → j < piece_size n k p → n / (k * 16) * 16 ≤ j → j * k + p < n
 single_below n k p j some within few past = rw (← place_past n k p j past) (place_below n k p j some within few)
 
--- the sizes of pieces differ by at most one
+-- the sizes of chunks differ by at most one
 pub fair : (n k : ℕ) → AreFair n k
 fair n k p lt = (omega arith, omega arith)
 
--- there is such a piece
+-- there is such a chunk
 pub piece_within : (n k i : ℕ) → 0 < k → piece_of n k i < k
 piece_within n k i some = by (cases_lt i (in_rounds n k))
   where
@@ -271,7 +271,7 @@ piece_within n k i some = by (cases_lt i (in_rounds n k))
         omega (arith, piece_in n k i lt)
     by (inr ge) = let below : i % k < k = mod-lt i some in omega (arith, piece_past n k i ge)
 
--- the only piece has all places
+-- the only chunk has all places
 pub single_place : (n j : ℕ) → place_at n 1 0 j ≡ j
 single_place n j = grind (arith, nat_tests)
 

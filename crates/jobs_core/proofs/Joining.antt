@@ -1,4 +1,4 @@
--- The results of pieces, taken in turn.
+-- The results of chunks, taken in turn.
 use Rattle.std.proofs.Common.{◌≡◌, ◌∙◌, ℕ, ◌+◌, ◌-◌, ◌<◌, ◌≤◌, ◌⊎◌, inl, inr, List, [], ◌∷◌, ◌++◌, length, drop, get_or, refl, ap, sym, arith, length-append, length-drop}
 use Rattle.std.specs.Prelude.{◌≢◌}
 use Rattle.std.proofs.lemmas.Bool.{cases_lt, cases_eq}
@@ -23,7 +23,7 @@ next_of t ys zs x h = by (cases_lt t (length ys))
 pub one_less : {X : Type 0} (xs ys : List X) (x : X) (m n : ℕ) → xs ≡ x ∷ ys → n + 1 ≡ m → m ≡ length xs → n ≡ length ys
 one_less xs ys x m n is fewer all = let long : length xs ≡ length ys + 1 = rw is (omega arith) in omega arith
 
--- the pieces that were opened, and those that are left
+-- the chunks that were opened, and those that are left
 pub record IsOpened {X R V : Type 0} (rest : R → List X) (items : V → List X) (Done : V → Type 0) (pieces : List V) (opened : List R) (left : List V) : Type 0
   where
     pub few : length opened ≤ length pieces
@@ -76,11 +76,11 @@ pub opened_all : {X R V : Type 0} (rest : R → List X) (items : V → List X) (
 opened_all rest items Done pieces opened left none h = omega (arith, length-drop (length opened) pieces, ap length h.behind, h.few)
 
 module _ {X R V : Type 0} (rest : R → List X) (items : V → List X) (n k : ℕ) where
-  -- of each piece that is left which isn't dealt before place i
+  -- of each chunk that is left which isn't dealt before place i
   abbrev pub AreLeft : ℕ → List V → List R → Type 0
   AreLeft i pieces rests = (p : ℕ) (d : R) (e : V) → p < k → rest (get_or rests p d) ≡ drop (dealt n k i p) (items (get_or pieces p e))
 
-  -- at each of the first i places stands what its piece has for it
+  -- at each of the first i places stands what its chunk has for it
   abbrev pub AreJoined : ℕ → List V → List X → Type 0
   AreJoined i pieces all = (j : ℕ) (d : X) (e : V) → j < i → get_or all j d ≡ get_or (items (get_or pieces (piece_of n k j) e)) (number_of n k j) d
 

@@ -39,14 +39,14 @@ IsRowOf line row = (row ≡ request_of WRITTEN line) × CanResolve row
 abbrev pub AreRightForRows : List (Result Request Rule) → List Outcome → Type 0
 AreRightForRows rows outcomes = AllZip (λ row o. IsRightForRow WRITTEN row (line_outcome o)) rows outcomes
 
--- a stop that says nothing of a line
+-- an early return that says nothing of a line
 abbrev pub HasNoOutcome : Stop → Type 0
 HasNoOutcome (undecided_stop f u) = ⊥
 HasNoOutcome (void_stop f s) = ⊥
 HasNoOutcome (missing_stop f) = Unit {0}
 HasNoOutcome memory_stop = Unit {0}
 
--- an outcome is what comes of a stop, at an open test or a void
+-- an outcome is what comes of an early return, at an undecided test or a void
 abbrev pub ComesOfStop : Stop → LineOutcome → Type 0
 ComesOfStop (undecided_stop f u) o = o ≡ undecided f u
 ComesOfStop (void_stop f s) o = o ≡ void f s

@@ -10,6 +10,6 @@ use Rattle.book_model.specs.lines.Outcomes.{LineOutcome, resolved}
 abbrev pub value_fields : ℤ → Fields
 value_fields value = record { count = 1; values = value ∷ pos 0 ∷ pos 0 ∷ pos 0 ∷ pos 0 ∷ [] }
 
--- what a line comes to that shows the value of a fact by a word, and rests on this fact alone
+-- the outcome of a line that shows the value of a fact by a word, and rests on this fact alone
 abbrev pub shown_outcome : ToWord × (Fact × ℤ) → LineOutcome
 shown_outcome shown = resolved (Shown shown.0 (value_fields shown.1.1)) (shown.1 ∷ [])

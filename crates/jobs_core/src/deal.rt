@@ -1,14 +1,14 @@
-//! How places are dealt to pieces in turn, so that work that grows dearer along the input is shared evenly. Neighbouring lines
+//! How places are dealt to chunks in turn, so that work that grows more expensive along the input is shared evenly. Neighbouring lines
 //! often ask the same facts, so whole rounds are dealt by blocks of neighbours, and only the rest one by one.
 ghost use Rattle.std.specs.Prelude.{◌≡◌, ◌≤◌, ◌<◌};
 ghost use Rattle.jobs_core.specs.Pieces as spec;
 
-// Two threads would compute the facts of neighbours at once; and dear lines that lie together, as
+// Two threads would compute the facts of neighbours at once; and expensive lines that lie together, as
 // the Islamic months of an almanac, are shared by all threads.
 /// How many places a block has.
 const BLOCK: usize = 16;
 
-/// The piece that a place goes to, of so many places and pieces.
+/// The chunk that a place goes to, of so many places and chunks.
 pub(crate) fn piece_of(count: usize, jobs: usize, place: usize) -> usize
     requires some { 0 < jobs }
     requires few { jobs ≤ 64 }
@@ -23,7 +23,7 @@ pub(crate) fn piece_of(count: usize, jobs: usize, place: usize) -> usize
     }
 }
 
-/// How many of so many places go to a piece. The sizes of pieces differ by at most one.
+/// How many of so many places go to a chunk. The sizes of chunks differ by at most one.
 pub(crate) fn piece_size(count: usize, jobs: usize, piece: usize) -> usize
     requires some { 0 < jobs }
     ensures size { result ≡ spec.piece_size count jobs piece }
@@ -31,7 +31,7 @@ pub(crate) fn piece_size(count: usize, jobs: usize, piece: usize) -> usize
     count / jobs + (count % jobs).saturating_sub(piece).min(1)
 }
 
-/// The place that has this number, from 0, among those of a piece.
+/// The place that has this number, from 0, among those of a chunk.
 pub(crate) fn place_at(count: usize, jobs: usize, piece: usize, number: usize) -> usize
     requires some { 0 < jobs }
     requires few { jobs ≤ 64 }

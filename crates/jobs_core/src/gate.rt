@@ -1,10 +1,10 @@
-//! A gate that is passed at the start of each piece of the work.
+//! A gate that is passed at the start of each chunk of the work.
 
-// A gate at which two pieces wait for one another refuses a body that works them one after the
+// A gate at which two chunks wait for one another refuses a body that works them one after the
 // other.
-/// Is told of each piece of the work as it begins, and promises nothing.
+/// Is told of each chunk of the work as it begins, and promises nothing.
 pub trait Gate {
-    /// The piece of this number, from 0, begins.
+    /// The chunk of this number, from 0, begins.
     fn at(&self, piece: usize);
 }
 

@@ -1,4 +1,4 @@
-//! The results of pieces, joined in the order of the places.
+//! The results of chunks, joined in the order of the places.
 ghost use Rattle.std.specs.Prelude.{◌≡◌, ◌≢◌, ◌≤◌, ◌<◌, ◌∷◌, ℕ, length, IfOk, IfSome, IsOk, slice_index_or};
 ghost use Rattle.std.specs.Vec.Iter.{into_iter_items};
 ghost use Rattle.jobs_core.specs.Pieces.{IsJoined, results_in};
@@ -7,7 +7,7 @@ use crate::deal::piece_of;
 use std::alloc::{AllocError, Global};
 use std::vec::IntoIter;
 
-/// The results of each piece, to be taken one after the other. The error comes where a piece has one, or memory runs out.
+/// The results of each chunk, to be taken one after the other. The error comes where a chunk has one, or memory runs out.
 fn opened<X: Drop>(
     alloc: Global,
     pieces: Vec<Result<Vec<X>, AllocError>>,
@@ -26,7 +26,7 @@ fn opened<X: Drop>(
     Ok(opened)
 }
 
-/// The next result of a piece, if there is one.
+/// The next result of a chunk, if there is one.
 fn next_of<X: Drop>(pieces: &mut Vec<IntoIter<X>>, piece: usize) -> Option<X>
     requires within { piece < length pieces.old.items }
     ensures len { length pieces.new.items ≡ length pieces.old.items }
@@ -39,8 +39,8 @@ fn next_of<X: Drop>(pieces: &mut Vec<IntoIter<X>>, piece: usize) -> Option<X>
     pieces[piece].next()
 }
 
-/// The results of so many pieces to which so many places were dealt, joined in the order of the places. The error comes where a
-/// piece has one, or memory runs out.
+/// The results of so many chunks to which so many places were dealt, joined in the order of the places. The error comes where a
+/// chunk has one, or memory runs out.
 pub(crate) fn join_pieces<X: Drop>(
     alloc: Global,
     count: usize,

@@ -1,9 +1,9 @@
 //! The work of a run, by several workers at the same time. `map_lines` computes an outcome for each row, which is what a
-//! line asks or the rule that it breaks, and `map_facts` an answer for each fact. Both deal their work to pieces by
-//! `map_places`, work each piece in a thread of its own, and give what comes of it in the order of the input, each
-//! right, whatever the number of pieces and however the threads run. Threads share the answers by a shelf.
+//! line asks or the rule that it breaks, and `map_facts` an answer for each fact. Both deal their work to chunks by
+//! `map_places`, work each chunk in a thread of its own, and give what comes of it in the order of the input, each
+//! right, whatever the number of chunks and however the threads run. Threads share the answers by a shelf.
 //!
-//! A gate is told as each piece begins: by it a test shows that pieces are worked at the same time, which no clause says.
+//! A gate is told as each chunk begins: by it a test shows that chunks are worked at the same time, which no clause says.
 #![tactic(auto)]
 
 mod deal;

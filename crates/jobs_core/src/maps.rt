@@ -15,9 +15,9 @@ use std::alloc::{AllocError, Global};
 use std::thread::Threads;
 
 /// An outcome for each row, in the order of the rows, each right for its row, by the answers that are on the shelf and those of
-/// the evaluator. The rows are dealt in turn to as many pieces as there are jobs, whose sizes differ by at most one; each is worked
-/// in a thread of its own where one can be had, and the gate is told once, as the piece begins, also of an empty one. The
-/// contract holds for every number of jobs, every gate and every order in which threads run. The error comes where memory
+/// the evaluator. The rows are dealt in turn to as many chunks as there are threads, whose sizes differ by at most one; each is
+/// worked in a thread of its own where one can be had, and the gate is told once, as the chunk begins, also of an empty one. The
+/// contract holds for every number of threads, every gate and every order in which threads run. The error comes where memory
 /// runs out.
 pub fn map_lines<R: Threads + Sync, E: Evaluator + Sync, G: Gate + Sync>(
     rt: &R,
@@ -60,7 +60,7 @@ fn listed(alloc: Global, all: &[Answer]) -> Result<Answers, AllocError>
 }
 
 /// An answer for each fact, in the order of the facts, each right for its fact: the answer that is on the shelf, or the
-/// evaluator's. The facts are dealt to pieces as `map_lines` deals rows, and the gate is told in the same way. The error comes
+/// evaluator's. The facts are dealt to chunks as `map_lines` deals rows, and the gate is told in the same way. The error comes
 /// where memory runs out.
 pub fn map_facts<R: Threads + Sync, E: Evaluator + Sync, G: Gate + Sync>(
     rt: &R,

@@ -21,7 +21,7 @@ pub struct Finding {
     pub facts: LineFacts,
 }
 
-// A stop of an oracle for a missing fact or for want of memory is no outcome.
+// An early return of an oracle at a missing fact or out of memory is no outcome.
 /// Why a line that breaks no rule has no result: a fact that it asks is undecided or void.
 #[derive(Clone, Copy)]
 pub enum Halt {
@@ -40,11 +40,11 @@ pub enum Outcome {
     Halted(Box<Halt>),
 }
 
-// A plain `Vec`, since the lists of pieces are joined by moving them.
+// A plain `Vec`, since the lists of chunks are joined by moving them.
 /// Outcomes, in the order of the rows.
 pub type Outcomes = Vec<Outcome>;
 
-/// Why a line has no result whose facts are asked up to this stop of an oracle over an evaluator. The error comes where
+/// Why a line has no result whose facts are asked up to this early return of an oracle over an evaluator. The error comes where
 /// memory ran out, and at a missing fact, of which such an oracle has none.
 fn halt_at(stop: Stop) -> Result<Halt, AllocError>
     ensures stopped { IfOk result (λ halt. ComesOfStop stop (halt_outcome halt)) }

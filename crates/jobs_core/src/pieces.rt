@@ -1,4 +1,4 @@
-//! Places that are dealt to pieces, and a call at each place.
+//! Places that are dealt to chunks, and a call at each place.
 ghost use Rattle.std.specs.Prelude.{◌≡◌, ◌≤◌, ◌<◌, ℕ, Ok, IfOk, length, slice_index_or};
 ghost use Rattle.jobs_core.specs.Pieces as spec;
 ghost use Rattle.jobs_core.specs.Pieces.{Covers};
@@ -10,7 +10,7 @@ use std::alloc::{AllocError, Global};
 use std::thread;
 use std::thread::Threads;
 
-/// What the calls at the places of a piece give, in order. The error is that of a call, or want of memory.
+/// What the calls at the places of a chunk give, in order. The error is that of a call, or that memory ran out.
 fn work_places<X: Drop, F: Fn(usize) -> Result<X, AllocError>>(
     alloc: Global,
     count: usize,
@@ -33,7 +33,7 @@ fn work_places<X: Drop, F: Fn(usize) -> Result<X, AllocError>>(
     Ok(done)
 }
 
-/// What the places of each piece give, in the order of the pieces. Each piece is worked in a thread of its own where one can
+/// What the places of each chunk give, in the order of the chunks. Each chunk is worked in a thread of its own where one can
 /// be had, and the gate is told as it begins.
 fn work_pieces<
     R: Threads + Sync,
@@ -72,7 +72,7 @@ fn work_pieces<
     )
 }
 
-/// The results of the only piece, as they stand: nothing is moved.
+/// The results of the only chunk, as they stand: nothing is moved.
 fn only_of<X: Drop>(mut pieces: Vec<Result<Vec<X>, AllocError>>) -> Result<Vec<X>, AllocError>
     requires one { length pieces.items ≡ 1 }
     ensures only { (d : _) → slice_index_or pieces.items 0 d ≡ result }
@@ -82,10 +82,10 @@ fn only_of<X: Drop>(mut pieces: Vec<Result<Vec<X>, AllocError>>) -> Result<Vec<X
 
 // Both maps are this, which knows nothing of lines and facts. The work isn't done in rounds of so
 // many lines, which would bound the memory: all is computed before anything is written.
-/// What `f` gives at each place below `count`, in the order of the places. They are dealt in turn to as many pieces as there are
-/// jobs, whose sizes differ by at most one, and some of which are empty where there are fewer places. Each piece is worked in
-/// a thread of its own where one can be had, and the gate is told once, as the piece begins. The error is that of a call, or
-/// want of memory.
+/// What `f` gives at each place below `count`, in the order of the places. They are dealt in turn to as many chunks as there are
+/// threads, whose sizes differ by at most one, and some of which are empty where there are fewer places. Each chunk is worked in
+/// a thread of its own where one can be had, and the gate is told once, as the chunk begins. The error is that of a call, or
+/// that memory ran out.
 pub fn map_places<
     R: Threads + Sync,
     X: Send + Drop,

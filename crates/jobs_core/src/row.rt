@@ -21,7 +21,7 @@ fn row_of(line: &[u8]) -> Row
 }
 
 // Without a gate: it tells when rows are computed.
-/// What each line asks, or the first rule that it breaks, in order. The lines are dealt to pieces as `map_lines` deals rows. The
+/// What each line asks, or the first rule that it breaks, in order. The lines are dealt to chunks as `map_lines` deals rows. The
 /// error comes where memory runs out.
 pub fn rows_of<R: Threads + Sync>(
     rt: &R,

@@ -3,7 +3,7 @@ ghost use Rattle.std.specs.Prelude.{◌≤◌};
 
 use std::alloc::Global;
 
-/// What work is done with: the runtime, the allocator, an evaluator of facts, the number of jobs, from 1 to 64, and a gate.
+/// What work is done with: the runtime, the allocator, an evaluator of facts, the number of threads, from 1 to 64, and a gate.
 #[derive(Drop)]
 pub struct Tools<'a, R, E, G> {
     pub rt: &'a R,

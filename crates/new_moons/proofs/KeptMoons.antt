@@ -36,7 +36,7 @@ moon_kept n o h k =
     kept_with_test Year years (dynamical_new_moon_of (n -ℤ NEW_MOON_OF_2000)) (after_year (dynamical_new_moon_of (n -ℤ NEW_MOON_OF_2000))) o
     (after_year_few (dynamical_new_moon_of (n -ℤ NEW_MOON_OF_2000))) h k
 
--- what may be kept of a new moon
+-- what may be cached of a new moon
 pub moon_kept_within : {E : Type 0} (shown : E → Interval) (number : ℤ) (n : ℕ) (o : Option Span) (e : E)
     → (negsuc 6299 ≤ℤ number → number ≤ℤ pos 55724 → Measured n shown (IsDated 1 (2 ^ 29 + 2 ^ 24 + 2 ^ 17)) (Ok e))
     → (FIRST_RECENT_MOON ≤ℤ number → number ≤ℤ LAST_RECENT_MOON → Measured n shown (IsFrom RECENT_START (TABLE_END +ℤ pos 1) (2 ^ 29 + 2 ^ 24 + 2 ^ 17)) (Ok e))

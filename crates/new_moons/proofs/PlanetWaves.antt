@@ -1,6 +1,6 @@
--- The planets' terms are waves by months in turns, and their sum in days is a millionth of these waves' sum. A term's
--- angle is that of its wave, as a fraction; its size in days is a millionth of the wave's, so the sums are too, member
--- by member.
+-- The planets' terms are periodic terms by months in turns, and their sum in days is a millionth of the sum of
+-- these. A term's angle is that of its periodic term, as a fraction; its size in days is a millionth of the
+-- periodic term's, so the sums are too, member by member.
 use Rattle.std.proofs.Common.{◌≡◌, ℕ, zero, suc, refl, arith, ℤ, pos, ◌+ℤ◌, ◌*ℤ◌, List, [], ◌∷◌, slice_index_or}
 use Rattle.std.proofs.lemmas.Int.{ints}
 use Rattle.book_model.specs.Fraction.{Fraction, ◌≈◌, ◌≤F◌, whole, plus, times}
@@ -27,7 +27,7 @@ use Rattle.periodic_terms.proofs.TableMatches.{tables_match}
 use Rattle.new_moons.specs.declared.planets.TheConstants.{PLANET_TURNS, PLANET_SLOPE, PLANET_SIZES}
 use Rattle.new_moons.proofs.MonthPolynomials.{exactly_within}
 
--- ---- a planet's term as a wave by months: 10^-2 degrees are 10^5 of 10^-7, and 10^-6 degrees a month are 365250 of
+-- ---- a planet's term as a periodic term by months: 10^-2 degrees are 10^5 of 10^-7, and 10^-6 degrees a month are 365250 of
 -- 10^-7 degrees for 36525
 abbrev wave_of_planet : PlanetTerm → Wave
 wave_of_planet t = record { size = t.size; phase = pos 100000 *ℤ t.phase; rate = pos 365250 *ℤ t.rate }
@@ -97,7 +97,7 @@ twice_within : (i : Interval) (a b f : Fraction) → IsProper i → times a b �
 twice_within i a b f p e = product_in i (product (product i (exactly a)) (exactly b)) f p
     (λ x m. twice_member i a b f x e m) (whole_twice i a b)
 
--- the ends of the sum of two products with a number that isn't negative
+-- the endpoints of the sum of two products with a number that isn't negative
 module _ (a b c d f : Fraction) (z : zero_fraction ≤F f) (p : a ≤F b) (q : c ≤F d) where
   low_sum : least (times (plus a c) f) (times (plus a c) f) (times (plus b d) f) (times (plus b d) f)
       ≤F plus (least (times a f) (times a f) (times b f) (times b f))
@@ -131,7 +131,7 @@ scaled_sum (between a b) everything f z p q = within_everything _
 scaled_sum (between a b) (between c d) f z p q = record { ends = (low_sum a b c d f z p q, high_sum a b c d f z p q) }
 
 -- ---- a term
--- its angle is that of the wave at the number
+-- its angle is that of the periodic term at the number
 angle_same : (k phase rate : ℤ) → millionths (pos 10000 *ℤ phase +ℤ rate *ℤ k)
     ≈ plus (ten_millionths (pos 100000 *ℤ phase)) (times (whole k) (daily_ten_millionths (pos 365250 *ℤ rate)))
 unfolding plus times
@@ -198,7 +198,7 @@ sums_within w k ts (suc n) =
     (millionths (pos 1)) millionth_positive
     (value_proper w (terms_to (turning_wave_of x) no_wave (planet_waves ts) n)) (value_proper w (turning_wave_of x v)))
 
--- what holds a millionth of the waves' sum at a number holds what the planets add
+-- what holds a millionth of the periodic terms' sum at a number holds what the planets add
 pub planets_hold : {E : Type 0} (shown : E → Interval) (w : World) (k : ℤ) (e : E)
     → Within shown w (scale (millionths (pos 1)) (terms_of (turning_wave_of (integer k)) no_wave
     (planet_waves PLANET_TERMS))) e

@@ -1,5 +1,5 @@
--- How wide the sum of the planets' waves is, over a whole number of months: its days are exact, so that only the
--- roundings of its rows are left.
+-- How wide the sum of the planets' periodic terms is, over a whole number of months: its days are exact, so that
+-- only the roundings of its rows are left.
 use Rattle.std.specs.Prelude.{◌≡◌, ℕ, ◌*◌, ◌^◌, ◌<◌, true, nat_lt, unsigned_abs, refl, ℤ, pos, ◌*ℤ◌}
 use Rattle.std.proofs.Common.{arith}
 use Rattle.std.proofs.lemmas.Bool.{lt-ltb}

@@ -137,7 +137,7 @@ fn evaluated_moon<E: Enclosure>(n: i64, trail: &mut Trail) -> Result<E, Fail>
     from_dynamical(dynamical_new_moon::<E>(n - NEW_MOON_OF_2000), trail)
 }
 
-/// The same, which the trail keeps from then on.
+/// The same, which the trail caches from then on.
 fn kept_moon<E: Enclosure>(n: i64, trail: &mut Trail) -> Result<E, Fail>
     requires number { IsSmall n }
     ensures leads { Follows E.shown (spec.new_moon_of n) trail.old.count trail.new.count result }
@@ -155,7 +155,7 @@ fn kept_moon<E: Enclosure>(n: i64, trail: &mut Trail) -> Result<E, Fail>
 
 /// The moment of the new moon of a number, counted from that of January of the year 1, in universal time (Reingold and
 /// Dershowitz, Calendrical Calculations, chapter 14; Meeus, Astronomical Algorithms, chapter 49). One test, at `year`; it
-/// is void at `year` in a year without a correction. Where the trail keeps the moment, it is taken, and its test counted.
+/// is void at `year` in a year without ΔT. Where the trail caches the moment, it is taken, and its test counted.
 pub fn new_moon<E: Enclosure>(n: i64, trail: &mut Trail) -> Result<E, Fail>
     requires number { IsSmall n }
     ensures leads { Follows E.shown (spec.new_moon_of n) trail.old.count trail.new.count result }
@@ -168,7 +168,7 @@ pub fn new_moon<E: Enclosure>(n: i64, trail: &mut Trail) -> Result<E, Fail>
 {
     match trail.kept(Asked::NewMoon(n), E::BITS) {
         Some(moment) => {
-            // What is kept makes one test that is decided, and it counts at the turn at which it is
+            // What is cached makes one test that is decided, and it counts at the turn at which it is
             // taken.
             trail.step();
             Ok(E::from_span(moment))

@@ -1,5 +1,5 @@
--- A sum of waves is no further from 0 than its sizes, at whatever days: each sine lies in -1 .. 1, and so each row
--- within its size. What lies in two spans lies in what they share, so that a sum may be cut to that.
+-- A sum of periodic terms is no further from 0 than its sizes, at whatever days: each sine lies in -1 .. 1, and so
+-- each row within its size. What lies in two spans lies in what they share, so that a sum may be cut to that.
 use Rattle.std.proofs.Common.{◌≡◌, ℕ, zero, suc, ◌+◌, ◌*◌, ◌^◌, refl, arith, unsigned_abs, neg_ℤ, ℤ, pos, ◌-ℤ◌, ◌≤ℤ◌, List, length, slice_index_or}
 use Rattle.std.specs.Int.{int_max, int_min}
 use Rattle.std.proofs.lemmas.Int.{ints, clamps}

@@ -23,7 +23,7 @@ signed_by n h =
     by_lt_z (pos n) (pos (2 ^ 127)) (λ l. (pos 0, omega (arith, ints, l)))
     (λ l. (pos 1, signed_high n h (omega (arith, ints, l))))
 
--- what a number is off where it wraps: a whole number of turns that count 2^-128
+-- what a number is off where it wraps: a whole number of turns in units of 2^-128
 wraps_by : (z : ℤ) → (k : ℤ) × (int_wrap w128 z ≡ z -ℤ k *ℤ pos (2 ^ 128))
 unfolding int_wrap
 wraps_by (pos a) =

@@ -73,7 +73,7 @@ none_ends n x l t =
 pub sine_at_0 : HasSine 0 (negsuc 1) (pos 2)
 sine_at_0 = sine_is 0 0 _ _ none_ends (omega (arith, ints)) (omega (arith, ints))
 
--- ---- the ends of one span hold those of another at the same angle, but for its width
+-- ---- the endpoints of one span hold those of another at the same angle, but for its width
 at_order : (a b : ℤ) → units_of_56 a ≤F units_of_56 b → a ≤ℤ b
 at_order a b h = omega (arith, ints, h.cross)
 

@@ -64,7 +64,7 @@ three k q lo hi w v m n a p i j u l t s r c h = by_third (floor_quotient (p -ℤ
         (omega (arith, ints, g.close, g.not_above, u, l, t)) s r y in
         wider (octant_of_turn q) (beyond q p) _ _ _ _ (omega (arith, ints, c)) (omega (arith, ints, c)) z
 
--- ---- the sine from a to b, of each point of which its ends are known
+-- ---- the sine from a to b, of each point of which its endpoints are known
 at_point : (n : ℕ) (q p lo hi : ℤ) → 40 ≤ n → IsIn q p → HasPoint (octant_of_turn q) (beyond q p) lo hi → (z : Fraction)
     → z ≈ units_of_56 p
     → sine_at n q z ⊆ between (units_of_56 lo) (units_of_56 hi)

@@ -1,4 +1,4 @@
--- How wide spans and sums are, as measures of enclosures: from an enclosure to the ends of its span, and back.
+-- How wide spans and sums are, as measures of enclosures: from an enclosure to the endpoints of its span, and back.
 use Rattle.std.proofs.Common.{◌≡◌, ℕ, ◌+◌, ◌*◌, ◌^◌, ◌≤◌, refl, arith, true, ℤ, pos, ◌+ℤ◌, ◌-ℤ◌, ◌*ℤ◌, ◌≤ℤ◌, ◌<ℤ◌}
 use Rattle.std.specs.Prelude.{nat_lt}
 use Rattle.std.proofs.lemmas.Int.{ints}
@@ -14,7 +14,7 @@ use Rattle.encl_core.proofs.Measuring.{looser, measured, sloped}
 use Rattle.trig_series.proofs.SineLemmas.{AreKept, span_keeps, kept_of, spans_of}
 use Rattle.periodic_terms.specs.Widths.{IsFactorSpan, IsFactorWithin, IsUsualEccentricity}
 
--- ---- what is measured has ends
+-- ---- what is measured has endpoints
 pub some_span : (a b : ℤ) (v : ℕ) (i : Interval) → i ≡ everything → IsWithin a b v i → ⊥
 unfolding IsNarrow
 some_span a b v i e h = let k : IsNarrow 0 (bounded a b 0 v) everything = rw e at h.kept in k

@@ -26,7 +26,7 @@ use Rattle.trig_series.proofs.Slopes.{sine_lower_slow}
 use Rattle.trig_series.proofs.TurnLemmas.{short_count}
 use Rattle.periodic_terms.specs.Turning.{HasSine, HasCosine, HasPoint}
 
--- an end that is moved down
+-- an endpoint that is moved down
 parted : (a b : ℤ) → units_of_56 a ≈ plus (units_of_56 (a -ℤ b)) (units_of_56 b)
 unfolding plus
 parted a b = record { cross = omega (arith, ints) }
@@ -37,7 +37,7 @@ moved_down a b x y lo m p q r =
     ((at 1 ⊕ at 2 ≼ at 0 ⊕ at 3) ∷ (at 4 ≼ at 1) ∷ (at 3 ≼ at 2 ⊕ at 5) ∷ (at 4 ≗ at 6 ⊕ at 5) ∷ []) (at 6) (at 0)
     (known 0 ⊞ known 1 ⊞ known 2 ⊞ multiple 3 (lit (negsuc 0))) refl (p, (q, (r, (parted lo m, tt))))
 
--- ---- wider ends
+-- ---- wider endpoints
 pub sine_wider : (d : ℕ) (lo hi lo' hi' : ℤ) → lo' ≤ℤ lo → hi ≤ℤ hi' → HasSine d lo hi → HasSine d lo' hi'
 sine_wider d lo hi lo' hi' l u h = record {
   low = λ n m. le_trans _ _ _ (order_at lo' lo l) (h.low n m);

@@ -1,5 +1,5 @@
--- Two tables match, row by row: the waves of the one are those of the other, as they are summed. Of two tables that are
--- written out it is computed.
+-- Two tables match, row by row: the periodic terms of the one are those of the other, as they are summed. Of two tables
+-- that are written out it is computed.
 use Rattle.std.specs.Prelude.{◌&&◌}
 use Rattle.std.specs.Int.Signed.{le_z, le_z_yes}
 use Rattle.std.proofs.Common.{◌≡◌, ℕ, zero, suc, ◌^◌, ◌<◌, refl, arith, Bool, true, false, ℤ, pos, ◌+ℤ◌, ◌*ℤ◌, ◌≤ℤ◌, List, [], ◌∷◌, length, slice_index_or}

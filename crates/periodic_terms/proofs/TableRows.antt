@@ -1,5 +1,5 @@
--- The rows of the moon's tables: they are small and come to so much, which is computed of the tables, and they are the
--- terms of the definitions, for which the angle of a row is the sum of its multiples, one after another.
+-- The rows of the moon's tables: they are small and have these totals, which is computed of the tables, and they are
+-- the terms of the definitions, for which the angle of a row is the sum of its multiples, one after another.
 use Rattle.std.specs.Prelude.{◌&&◌}
 use Rattle.std.specs.Int.Signed.{le_z, le_z_yes}
 use Rattle.std.proofs.Common.{◌≡◌, ℕ, zero, suc, ◌+◌, ◌*◌, ◌^◌, ◌≤◌, refl, arith, Bool, true, false, unsigned_abs, ℤ, pos, ◌+ℤ◌, ◌*ℤ◌, ◌≤ℤ◌, List}
@@ -83,7 +83,7 @@ latitude_small = small_rows latitude_row_of LATITUDE_TERMS refl
 pub new_moon_small : AreSmall new_moon_row_of NEW_MOON_TERMS
 new_moon_small = small_rows new_moon_row_of NEW_MOON_TERMS refl
 
--- ---- what they come to
+-- ---- their totals
 pub longitude_sums : (none : MoonTerm) → HasSums longitude_row_of MOON_TERMS none LONGITUDE_SUMS
 unfolding sums_to
 longitude_sums none = refl

@@ -56,7 +56,7 @@ product_below : (q u a b : ℤ) → u ≤ℤ (q *ℤ pos (2 ^ 19)) → (a *ℤ b
 unfolding times
 product_below q u a b h k = below_112 q (a *ℤ b) (through (a *ℤ b) u _ k h)
 
--- the four products of ends lie within g r + h 2^56 of f s
+-- the four products of endpoints lie within g r + h 2^56 of f s
 record AreCorners (f h s r l u : ℤ) : Type 0 where
   ll : (l ≤ℤ ((f -ℤ h) *ℤ (s -ℤ r))) × (((f -ℤ h) *ℤ (s -ℤ r)) ≤ℤ u)
   lh : (l ≤ℤ ((f -ℤ h) *ℤ (s +ℤ r))) × (((f -ℤ h) *ℤ (s +ℤ r)) ≤ℤ u)

@@ -1,4 +1,4 @@
--- A sum of rows as a span: how far from 0 it may be at most, to which it is cut, and its ends in parts of 2^-56.
+-- A sum of rows as a span: how far from 0 it may be at most, to which it is cut, and its endpoints in parts of 2^-56.
 use Rattle.std.proofs.Common.{mul-le-mul, refl, ◌≡◌, ℕ, ◌+◌, ◌*◌, ◌/◌, ◌-◌, ◌^◌, ◌≤◌, arith, neg_ℤ, ℤ, pos, ◌+ℤ◌, ◌-ℤ◌, ◌*ℤ◌, ◌≤ℤ◌, ◌<ℤ◌, [], ◌∷◌}
 use Rattle.std.specs.Int.{int_max, int_min}
 use Rattle.std.proofs.lemmas.Int.{ints, clamps}
@@ -42,7 +42,7 @@ pub sum_inside : (u : ℕ) (t : MeanTurns) (i : Interval) (s r : ℤ) (a b : Row
     → i ⊆ between (in_93 u (s -ℤ r)) (in_93 u (s +ℤ r))
 sum_inside u t i s r a b e h k = rw h (rw e at k)
 
--- ---- an end is no further out than a sum may be
+-- ---- an endpoint is no further out than a sum may be
 within_cut : (u : ℕ) (m : ℕ) (lo hi : ℤ) (i : Interval) → i ⊆ between (in_93 u lo) (in_93 u hi)
     → i ⊆ around_93 u (pos 0) m
     → i ⊆ between (in_93 u (int_min (int_max lo (neg_ℤ (pos m))) (pos m)))
@@ -135,7 +135,7 @@ radius_less s t v h =
     twice : (a b n p : ℕ) → a ≤ 5 * 2 ^ 35 * n → b ≤ p * 2 ^ 56 → 2 * (a + b) ≤ 5 * 2 ^ 36 * n + p * 2 ^ 57
     twice a b n p h k = omega (arith, h, k)
 
--- ---- the ends of a sum
+-- ---- the endpoints of a sum
 pub apart_is : (s r : ℤ) (n : ℕ) → r ≡ pos n → (s +ℤ r) -ℤ (s -ℤ r) ≡ pos (2 * n)
 apart_is s r n e = omega (arith, ints, e)
 

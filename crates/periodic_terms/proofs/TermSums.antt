@@ -1,5 +1,5 @@
 -- The sum of the rows of a table: what lies around two numbers adds up to what lies around their sum, row by row, and
--- the radius of all is that of what the rows come to together.
+-- the radius of all is that of the rows' totals.
 use Rattle.std.proofs.Common.{sym, subst, ◌∙◌, ◌≡◌, ℕ, zero, suc, ◌+◌, ◌*◌, ◌/◌, ◌-◌, ◌^◌, ◌≤◌, ◌<◌, refl, ap, arith, ℤ, pos, ◌+ℤ◌, ◌-ℤ◌}
 use Rattle.std.proofs.Common.{◌*ℤ◌, add-one, List, length, slice_index_or, [], ◌∷◌}
 use Rattle.std.proofs.lemmas.Int.{ints}

@@ -1,7 +1,7 @@
--- What a row of waves adds, from the sine at its turn in the middle of the days. The angle of the definition is a sum
--- of fractions, that of the code a count of parts of a turn: both are brought to parts of 2^-56 degrees, where each
--- rounding is an inequality between whole numbers, and these are added up by a certificate (`le_over`). From the angle
--- the sine follows by `sine_far`, and the row by its size.
+-- What a row of periodic terms adds, from the sine at its turn in the middle of the days. The angle of the definition
+-- is a sum of fractions, that of the code a binary angle, a count of parts of a turn: both are brought to parts of
+-- 2^-56 degrees, where each rounding is an inequality between whole numbers, and these are added up by a certificate
+-- (`le_over`). From the angle the sine follows by `sine_far`, and the row by its size.
 use Rattle.std.proofs.Common.{◌<◌, ◌≡◌, ℕ, ◌+◌, ◌*◌, ◌/◌, ◌-◌, ◌^◌, ◌≤◌, refl, ap, arith, unsigned_abs, neg_ℤ, ℤ, pos, negsuc, ◌+ℤ◌, ◌-ℤ◌, ◌*ℤ◌, ◌≤ℤ◌, ◌<ℤ◌, [], ◌∷◌}
 use Rattle.std.proofs.lemmas.Int.{ints}
 use Rattle.book_model.specs.Fraction.{Fraction, ◌≤F◌, whole, plus, times, floor_quotient}
@@ -157,7 +157,7 @@ sum_ends c x y a b l u = record {
   );
 }
 
--- the angles of an interval of days, from those of its ends
+-- the angles of an interval of days, from those of its endpoints
 interval_within : (phase rate lo hi a b : ℤ) (i : Interval) → IsProper i → i ⊆ between (units_of_56 lo) (units_of_56 hi)
     → (units_of_56 a ≤F angle_at phase rate lo) × (angle_at phase rate lo ≤F units_of_56 b)
     → (units_of_56 a ≤F angle_at phase rate hi) × (angle_at phase rate hi ≤F units_of_56 b)

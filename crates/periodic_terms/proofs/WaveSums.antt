@@ -1,6 +1,6 @@
--- The sum of the rows of a table of waves: what lies around two numbers adds up to what lies around their sum, row by
--- row, and the radii of all rows come to what two sums over the table say, of the sizes and of the sizes times the
--- rates.
+-- The sum of the rows of a table of periodic terms: what lies around two numbers adds up to what lies around their
+-- sum, row by row, and the radii of all rows add up to what two sums over the table say, of the sizes and of the
+-- sizes times the rates.
 use Rattle.std.proofs.Common.{◌≡◌, ℕ, zero, suc, ◌+◌, ◌*◌, ◌/◌, refl, arith, unsigned_abs, ℤ, pos, ◌+ℤ◌, ◌-ℤ◌, ◌*ℤ◌, ◌≤ℤ◌, add-one, List, length, slice_index_or, [], ◌∷◌}
 use Rattle.std.proofs.lemmas.Int.{ints}
 use Rattle.book_model.specs.Fraction.{plus}

@@ -12,7 +12,7 @@ use Rattle.periodic_terms.specs.declared.mean.MeanTurn.{MeanTurn}
 use Rattle.periodic_terms.specs.declared.mean.MeanTurns.{MeanTurns}
 use Rattle.periodic_terms.specs.declared.term_sums.RowSums.{RowSums}
 
--- a number that counts 2^-93 of a part of u + 1
+-- a number in units of 2^-93 of a part of u + 1
 abbrev pub in_93 : ℕ → ℤ → Fraction
 in_93 u z = record { num = z; below = below_product (2 ^ 93 - 1) u }
 
@@ -38,7 +38,7 @@ pub record IsSmallRow (r : Multiples) : Type 0 where
   pub power : r.power ≤ 2
   pub size : unsigned_abs r.size ≤ 2 ^ 25
 
--- the sum of the angles that a row takes, which counts 2^-64 turns, and how far that may be off, in 2^-61 degrees
+-- the sum of the angles that a row takes, in units of 2^-64 turns, and how far that may be off, in 2^-61 degrees
 abbrev pub multiples_of : MeanTurns → Multiples → ℤ
 multiples_of t r =
     ((r.elongation *ℤ pos t.elongation.turn +ℤ r.sun_anomaly *ℤ pos t.sun_anomaly.turn)
@@ -114,7 +114,7 @@ abbrev pub powered_of : (size : ℤ) → ℕ → ℕ
 powered_of size zero = 0
 powered_of size (suc k) = unsigned_abs size
 
--- what a row comes to
+-- the totals of a row
 abbrev pub sums_of : Multiples → RowSums
 sums_of r =
     record {
@@ -141,7 +141,7 @@ together a b =
       powered = a.powered + b.powered;
     }
 
--- what the first n rows of a table come to
+-- the totals of the first n rows of a table
 unfoldable pub sums_to : {T : Type 0} → (T → Multiples) → T → List T → ℕ → RowSums
 sums_to row_of none rows zero = no_sums
 sums_to row_of none rows (suc n) = together (sums_to row_of none rows n) (sums_of (row_of (slice_index_or rows n none)))
@@ -155,7 +155,7 @@ abbrev pub AreTerms : {T : Type 0} → World → ℕ → MeanTurns → (T → Mu
 AreTerms {T} w u t row_of term rows none = (i : ℕ) → i < length rows
     → IsTerm w u t (row_of (slice_index_or rows i none)) (term (slice_index_or rows i none))
 
--- what the rows of a table come to
+-- the totals of the rows of a table
 abbrev pub HasSums : {T : Type 0} → (T → Multiples) → List T → T → RowSums → Type 0
 HasSums row_of rows none s = sums_to row_of none rows (length rows) ≡ s
 

@@ -1,6 +1,6 @@
--- Waves by turns and days, and how far a sum of their rows may be off; where the sines at an angle of an octant lie.
--- A phase counts 10^-7 degrees, and a rate the same a century: 3600000000 of them are a turn, and 365250000000 a degree
--- a day.
+-- Periodic terms by turns and days, and how far a sum of their rows may be off; where the sines at an angle of an
+-- octant lie. A phase counts 10^-7 degrees, and a rate the same a century: 3600000000 of them are a turn, and
+-- 365250000000 a degree a day.
 use Rattle.std.specs.Prelude.{◌≡◌, ℕ, zero, suc, ◌+◌, ◌*◌, ◌/◌, ◌-◌, ◌^◌, ◌≤◌, ◌<◌, unsigned_abs, ℤ, pos, neg_ℤ, ◌+ℤ◌, ◌-ℤ◌, ◌*ℤ◌, ◌≤ℤ◌, List, length, slice_index_or}
 use Rattle.book_model.specs.Fraction.{◌≤F◌, whole, floor_quotient}
 use Rattle.book_model.specs.Sums.{lower, upper}
@@ -14,7 +14,7 @@ use Rattle.encl_core.specs.parts.TheConstants.{OCTANT}
 use Rattle.trig_series.specs.Kernel.{in_radians, in_radians_above}
 use Rattle.periodic_terms.specs.declared.wave_rows.TurningWave.{TurningWave}
 
--- the sums of the sine of d degrees, which count 2^-56, lie from lo to hi, which do too
+-- the sums of the sine of d degrees, in units of 2^-56, lie from lo to hi, in the same units
 pub record HasSine (d : ℕ) (lo hi : ℤ) : Type 0 where
   pub low : (n : ℕ) → 40 ≤ n → units_of_56 lo ≤F lower (sine_term (in_radians d)) n
   pub high : (n : ℕ) → 40 ≤ n → upper (sine_term (in_radians_above d)) n ≤F units_of_56 hi
@@ -32,16 +32,16 @@ HasPoint (suc (suc zero)) d lo hi = HasCosine d lo hi
 HasPoint (suc (suc (suc zero))) d lo hi = HasSine (OCTANT - d) lo hi
 HasPoint (suc (suc (suc (suc j)))) d lo hi = HasPoint j d (neg_ℤ hi) (neg_ℤ lo)
 
--- the octant of an angle that counts 2^-64 turns
+-- the octant of an angle in units of 2^-64 turns
 abbrev pub octant_of : ℕ → ℕ
 octant_of t = t / 2 ^ 61
 
--- how far into it that is, in degrees that count 2^-56, rounded down
+-- how far into it that is, in degrees in units of 2^-56, rounded down
 abbrev pub degrees_of : ℕ → ℕ
 degrees_of t = (t - t / 2 ^ 61 * 2 ^ 61) * 45 / 32
 
--- a wave as it is summed: its size; its phase in 2^-64 turns, and its rate in 2^-80 turns a day, both rounded down. A
--- turn a day is 8 * 16436250000000 of a rate, so that 2^-80 turns are that over 2^77
+-- a periodic term as it is summed: its size; its phase in 2^-64 turns, and its rate in 2^-80 turns a day, both rounded
+-- down. A turn a day is 8 * 16436250000000 of a rate, so that 2^-80 turns are that over 2^77
 pub record IsTurning (v : Wave) (t : TurningWave) : Type 0 where
   pub size : t.size ≡ v.size
   pub phase_below : (pos t.phase *ℤ pos 3600000000) ≤ℤ (v.phase *ℤ pos (2 ^ 64))
@@ -55,22 +55,22 @@ pub record AreTurning (vs : List Wave) (ts : List TurningWave) : Type 0 where
   pub rows : (i : ℕ) → i < length ts → (none : TurningWave)
       → IsTurning (slice_index_or vs i no_wave) (slice_index_or ts i none)
 
--- what a wave adds, by the days
+-- what a periodic term adds, by the days
 unfoldable pub turning_wave_of : Expression → Wave → Expression
 turning_wave_of x v = scale (whole v.size) (sine (add (constant (ten_millionths v.phase))
     (scale (daily_ten_millionths v.rate) x)))
 
--- how far what a wave adds is off at most, in 2^-56, for days that are at most w off, in 2^-56: its angle moves by rate
+-- how far what a periodic term adds is off at most, in 2^-56, for days that are at most w off, in 2^-56: its angle moves by rate
 -- * w, and its sine by a 57th of that; 20819250000000 is 57 * 365250000000. The roundings of a row are 28
 abbrev pub radius_of : Wave → ℕ → ℕ
 radius_of v w = unsigned_abs v.size * (unsigned_abs v.rate * w / 20819250000000 + 28)
 
--- the same of the sum of the first n waves
+-- the same of the sum of the first n periodic terms
 unfoldable pub radius_to : List Wave → ℕ → ℕ → ℕ
 radius_to vs w zero = 0
 radius_to vs w (suc n) = radius_to vs w n + radius_of (slice_index_or vs n no_wave) w
 
--- the sums of the sizes, and of their products with the rates, of the first n waves
+-- the sums of the sizes, and of their products with the rates, of the first n periodic terms
 unfoldable pub sizes_to : List Wave → ℕ → ℕ
 sizes_to vs zero = 0
 sizes_to vs (suc n) = sizes_to vs n + unsigned_abs (slice_index_or vs n no_wave).size
@@ -80,7 +80,7 @@ reach_to vs zero = 0
 reach_to vs (suc n) = reach_to vs n + unsigned_abs (slice_index_or vs n no_wave).size * unsigned_abs
     (slice_index_or vs n no_wave).rate
 
--- the part of a turn, in 2^-64, that a rate in 2^-80 turns makes of days that count 2^-48
+-- the part of a turn, in 2^-64, that a rate in 2^-80 turns makes of days in units of 2^-48
 abbrev pub turn_part : (rate mid : ℤ) → ℤ
 turn_part rate mid = floor_quotient (rate *ℤ mid) (2 ^ 64 - 1)
 
@@ -88,7 +88,7 @@ turn_part rate mid = floor_quotient (rate *ℤ mid) (2 ^ 64 - 1)
 abbrev pub whole_turns : ℤ → ℤ
 whole_turns n = floor_quotient n (2 ^ 64 - 1)
 
--- the days from lo to hi, in 2^-56, are within w of a number of days that counts 2^-48
+-- the days from lo to hi, in 2^-56, are within w of a number of days in units of 2^-48
 pub record AreNear (mid : ℤ) (w : ℕ) (lo hi : ℤ) : Type 0 where
   pub ordered : lo ≤ℤ hi
   pub above : (mid *ℤ pos (2 ^ 8) -ℤ pos w) ≤ℤ lo
@@ -96,8 +96,8 @@ pub record AreNear (mid : ℤ) (w : ℕ) (lo hi : ℤ) : Type 0 where
   pub least : neg_ℤ (pos (2 ^ 68)) ≤ℤ mid
   pub greatest : mid ≤ℤ pos (2 ^ 68)
 
--- a slope that counts 2^-32 is at least a 57th of the sum of the sizes times the rates a day, in degrees, and the sizes
--- come to no more than this
+-- a slope in units of 2^-32 is at least a 57th of the sum of the sizes times the rates a day, in degrees, and the sizes add up
+-- to no more than this
 pub record HasReach (vs : List Wave) (slope sizes : ℕ) : Type 0 where
   pub reach : (pos (reach_to vs (length vs)) *ℤ pos (2 ^ 32)) ≤ℤ (pos slope *ℤ pos 20819250000000)
   pub total : pos (sizes_to vs (length vs)) ≤ℤ pos sizes

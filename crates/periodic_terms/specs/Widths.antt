@@ -13,7 +13,7 @@ pub record IsTurnWithin (a : MeanTurn) (v : ℕ) : Type 0 where
   pub known : a.known ≡ true
   pub narrow : a.half * 16 ≤ v + 2 ^ 11
 
--- ends of the factor or its square, which count 2^-56: from 1/4 to 39/32, and 2^-38 apart
+-- endpoints of the factor or its square, in units of 2^-56: from 1/4 to 39/32, and 2^-38 apart
 pub record IsFactorSpan (lo hi : ℤ) : Type 0 where
   pub low : pos (2 ^ 54) ≤ℤ lo
   pub high : hi ≤ℤ pos (39 * 2 ^ 51)

@@ -16,13 +16,13 @@ use crate::term_rows::{ONE, UNIT};
 use crate::wave_rows::low_64;
 use encl_core::{Enclosure, Span};
 
-/// 2²⁵ degrees, which count 2⁻⁵⁶.
+/// 2²⁵ degrees, in units of 2⁻⁵⁶.
 const FAR: i128 = 1 << 81;
 
-/// 2¹⁷ turns, which count 2⁻³⁷ degrees.
+/// 2¹⁷ turns, in units of 2⁻³⁷ degrees.
 const WHOLE_TURNS: i128 = 45 << 57;
 
-/// 2 degrees, which count 2⁻⁵⁶, and three of these less.
+/// 2 degrees, in units of 2⁻⁵⁶, and three of these less.
 const GREATEST_HALF: i128 = (1 << 57) - 3;
 
 /// How many parts of 2⁻⁵⁶ are one of 2⁻³⁷.
@@ -31,7 +31,7 @@ const PARTS: i128 = 1 << 19;
 /// One less than that, by which a quotient is rounded up.
 const ROUND_UP: u64 = (1 << 19) - 1;
 
-/// 4, which counts 2⁻⁵⁶.
+/// 4, in units of 2⁻⁵⁶.
 const GREATEST_END: i128 = 1 << 58;
 
 /// How many parts of 2⁻⁶⁴ of a turn are 45 of 2⁻³⁷ degrees.
@@ -58,7 +58,7 @@ fn floor_19(number: i128) -> i128
     number >> 19
 }
 
-/// The middle of a span of degrees, rounded down; `None` further than 2²⁵ degrees from 0.
+/// The middle of an interval of degrees, rounded down; `None` further than 2²⁵ degrees from 0.
 #[inline(always)]
 fn middle_of(span: Span) -> Option<i128>
     ensures below { IfSome result (λ m. (m *ℤ pos 2) ≤ℤ (span.lo +ℤ span.hi)) }
@@ -77,7 +77,7 @@ fn middle_of(span: Span) -> Option<i128>
     Some(half_of(span.lo + span.hi))
 }
 
-/// An angle that counts 2⁻³⁷ degrees and so many whole turns that it isn't negative.
+/// An angle in units of 2⁻³⁷ degrees and so many whole turns that it isn't negative.
 #[inline(always)]
 fn shifted(middle: i64) -> u64
     requires least { neg_ℤ (pos (2 ^ 62)) ≤ℤ middle }
@@ -87,8 +87,8 @@ fn shifted(middle: i64) -> u64
     (i128::from(middle) + WHOLE_TURNS) as u64
 }
 
-/// An angle that counts 2⁻³⁷ degrees in 2⁻⁶⁴ turns, rounded down; whole turns are left out. A unit is 2²⁴ / 45 of these, and 2⁴⁰
-/// times 45 units are a turn.
+/// An angle in units of 2⁻³⁷ degrees as one in units of 2⁻⁶⁴ turns, rounded down; whole turns are left out. A unit is 2²⁴ / 45 of
+/// these, and 2⁴⁰ times 45 units are a turn.
 #[inline(always)]
 fn wide_turn_at(middle: i64) -> u64
     requires least { neg_ℤ (pos (2 ^ 62)) ≤ℤ middle }
@@ -102,7 +102,7 @@ fn wide_turn_at(middle: i64) -> u64
     part * TURN_PARTS + rest * TURN_PARTS / 45
 }
 
-/// What a part of 2⁻³⁷ degrees, which counts 2⁻⁵⁶, adds to a turn, in 2⁻⁶⁴ turns, rounded down.
+/// What a part of 2⁻³⁷ degrees, in units of 2⁻⁵⁶, adds to a turn, in 2⁻⁶⁴ turns, rounded down.
 #[inline(always)]
 fn rest_of_turn(rest: u64) -> u64
     requires few { rest < 2 ^ 19 }
@@ -112,7 +112,7 @@ fn rest_of_turn(rest: u64) -> u64
     rest * 32 / 45
 }
 
-/// An angle that counts 2⁻⁵⁶ degrees in 2⁻⁶⁴ turns, rounded down twice; whole turns are left out.
+/// An angle in units of 2⁻⁵⁶ degrees as one in units of 2⁻⁶⁴ turns, rounded down twice; whole turns are left out.
 #[inline(always)]
 fn turn_at(middle: i128) -> u64
     requires least { neg_ℤ (pos (2 ^ 81)) ≤ℤ middle }
@@ -124,7 +124,8 @@ fn turn_at(middle: i128) -> u64
     low_64(i128::from(wide_turn_at(wide as i64)) + i128::from(rest_of_turn(rest)))
 }
 
-/// How far the ends of a span are from its middle, in 2⁻⁶¹ degrees, with the roundings of its turn; `None` for more than 2 degrees.
+/// How far the endpoints of a span are from its middle, in 2⁻⁶¹ degrees, with the roundings of its turn; `None` for more than 2
+/// degrees.
 #[inline(always)]
 fn half_around(hi: i128, middle: i128) -> Option<u64>
     requires least { neg_ℤ (pos (2 ^ 81)) ≤ℤ middle }
@@ -142,7 +143,7 @@ fn half_around(hi: i128, middle: i128) -> Option<u64>
     Some((after * 32 + 90) as u64)
 }
 
-/// A span of degrees as a turn; `None` over more than 2 degrees on a side, or further than 2²⁵ degrees from 0.
+/// An interval of degrees as a turn; `None` over more than 2 degrees on a side, or further than 2²⁵ degrees from 0.
 #[inline(always)]
 fn turn_of_span(span: Span) -> Option<MeanTurn>
     ensures near { IfSome result (λ t. (i : Interval)
@@ -160,7 +161,7 @@ fn turn_of_span(span: Span) -> Option<MeanTurn>
     })
 }
 
-/// A factor by its ends, which count 2⁻⁵⁶.
+/// A factor by its endpoints, in units of 2⁻⁵⁶.
 #[inline(always)]
 fn factor_between(lo: u64, hi: u64) -> MeanFactor
     requires ordered { lo ≤ hi }
@@ -178,7 +179,7 @@ fn factor_between(lo: u64, hi: u64) -> MeanFactor
     }
 }
 
-/// An end in 64 bits.
+/// An endpoint in 64 bits.
 #[inline(always)]
 fn end_of(end: i128) -> u64
     requires from { pos 0 ≤ℤ end }
@@ -252,7 +253,7 @@ fn turn_of<E: Enclosure>(angle: E) -> MeanTurn
     }
 }
 
-/// 5 / 4, which count 2⁻³⁷.
+/// 5 / 4, in units of 2⁻³⁷.
 const GREATEST_FACTOR: u64 = 5 << 35;
 
 /// The greater of two numbers.
@@ -265,7 +266,7 @@ fn greater_of(a: u64, b: u64) -> u64
     if a < b { b } else { a }
 }
 
-/// A number that counts 2⁻⁵⁶ in 2⁻³⁷, rounded up.
+/// A number in units of 2⁻⁵⁶ as one in units of 2⁻³⁷, rounded up.
 #[inline(always)]
 fn ceil_19(number: u64) -> u64
     requires small { number ≤ 2 ^ 60 }

@@ -1,4 +1,4 @@
-//! The sine at an angle in parts of a turn.
+//! The sine at a binary angle, which counts parts of a turn.
 //!
 //! The angle goes through degrees: that costs a product, and lets the numbers and the lemmas of `trig_series` serve as they are.
 ghost use Rattle.std.specs.Prelude.{◌≡◌, ◌≤◌, ◌^◌, pos, neg_ℤ, ◌≤ℤ◌, ◌<ℤ◌, ◌+ℤ◌, ◌-ℤ◌, ◌*ℤ◌};
@@ -11,7 +11,7 @@ use trig_series::{cosine_of_degrees_56, sine_of_degrees_56};
 /// An eighth of a turn, in 2⁻⁶⁴ turns.
 const EIGHTH: u64 = 1 << 61;
 
-/// How far an angle that counts 2⁻⁶⁴ turns is into its octant, in degrees that count 2⁻⁵⁶, rounded down.
+/// How far an angle in units of 2⁻⁶⁴ turns is into its octant, in degrees in units of 2⁻⁵⁶, rounded down.
 #[inline(always)]
 fn degrees_into(turn: u64) -> u64
     ensures value { result ≡ degrees_of turn }
@@ -22,7 +22,7 @@ fn degrees_into(turn: u64) -> u64
     (u128::from(rest) * 45 >> 5) as u64
 }
 
-/// A number that counts 2⁻⁶⁴, in parts of 2⁻⁵⁶, rounded down.
+/// A number in units of 2⁻⁶⁴, in parts of 2⁻⁵⁶, rounded down.
 #[inline(always)]
 fn parts_of(number: u64) -> i64
     ensures below { (result *ℤ pos 256) ≤ℤ pos number }
@@ -55,7 +55,7 @@ fn sine_into_half(octant: u64, degrees: u64) -> i64
     parts_of(sine_of_degrees_56(OCTANT - degrees))
 }
 
-/// The sine at an angle that counts 2⁻⁶⁴ turns, in parts of 2⁻⁵⁶: within three of them.
+/// The sine at an angle in units of 2⁻⁶⁴ turns, in parts of 2⁻⁵⁶: within three of them.
 #[inline(always)]
 pub fn sine_at_turn(turn: u64) -> i64
     ensures near { HasPoint (octant_of turn) (degrees_of turn) (result -ℤ pos 3) (result +ℤ pos 3) }

@@ -34,7 +34,7 @@ use encl_core::{Enclosure, Span};
 /// argument of latitude.
 pub const GREATEST_TERMS: usize = 4;
 
-/// What the terms of the longitude come to.
+/// The totals of the terms of the longitude.
 const LONGITUDE_SUMS: RowSums = RowSums {
     elongation: 4_568_713,
     sun_anomaly: 412_267,
@@ -44,7 +44,7 @@ const LONGITUDE_SUMS: RowSums = RowSums {
     powered: 404_178,
 };
 
-/// What the greatest of them come to.
+/// The totals of the greatest of them.
 const GREATEST_SUMS: RowSums = RowSums {
     elongation: 3_864_682,
     sun_anomaly: 0,
@@ -54,7 +54,7 @@ const GREATEST_SUMS: RowSums = RowSums {
     powered: 0,
 };
 
-/// What the others come to.
+/// The totals of the others.
 const OTHER_SUMS: RowSums = RowSums {
     elongation: 704_031,
     sun_anomaly: 412_267,
@@ -64,7 +64,7 @@ const OTHER_SUMS: RowSums = RowSums {
     powered: 404_178,
 };
 
-/// What the terms of the distance come to.
+/// The totals of the terms of the distance.
 const DISTANCE_SUMS: RowSums = RowSums {
     elongation: 15_608_236,
     sun_anomaly: 798_317,
@@ -74,7 +74,7 @@ const DISTANCE_SUMS: RowSums = RowSums {
     powered: 777_847,
 };
 
-/// What the terms of the latitude come to.
+/// The totals of the terms of the latitude.
 const LATITUDE_SUMS: RowSums = RowSums {
     elongation: 722_146,
     sun_anomaly: 31_867,
@@ -84,7 +84,7 @@ const LATITUDE_SUMS: RowSums = RowSums {
     powered: 31_458,
 };
 
-/// What the terms of a new moon come to.
+/// The totals of the terms of a new moon.
 const NEW_MOON_SUMS: RowSums = RowSums {
     elongation: 0,
     sun_anomaly: 19_109,

@@ -14,7 +14,7 @@ use crate::wave_rows::low_64;
 /// A quarter of a turn, in 2⁻⁶⁴ turns.
 const QUARTER: i128 = 1 << 62;
 
-/// 1, which counts 2⁻³⁷, and 2⁻⁵⁶.
+/// 1, in units of 2⁻³⁷, and 2⁻⁵⁶.
 pub(crate) const ONE: u64 = 1 << 37;
 
 pub(crate) const UNIT: u64 = 1 << 56;
@@ -35,7 +35,7 @@ pub(crate) struct Multiples {
     pub size: i64,
 }
 
-/// So many times an angle that counts 2⁻⁶⁴ turns.
+/// So many times an angle in units of 2⁻⁶⁴ turns.
 #[inline(always)]
 fn times(multiple: i64, turn: u64) -> i128
     requires few { unsigned_abs multiple ≤ 8 }
@@ -105,7 +105,7 @@ fn floor_56(number: i128) -> i128
     number >> 56
 }
 
-/// A factor times a sine, which both count 2⁻⁵⁶.
+/// A factor times a sine, both in units of 2⁻⁵⁶.
 #[inline(always)]
 fn factored(factor: u64, sine: i64) -> i128
     requires factor { factor ≤ 5 * 2 ^ 54 }

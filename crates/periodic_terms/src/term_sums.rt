@@ -12,8 +12,8 @@ use crate::mean::{MeanFactors, MeanTurn, MeanTurns};
 use crate::term_rows::{MultipleRow, ONE, row_at};
 use crate::whole::WholeSum;
 
-/// What a table's rows come to: for each mean angle the sum of their sizes times the number of times that they take it, the sum of their
-/// sizes, and of the sizes of those with a power of the factor.
+/// The totals of a table's rows: for each mean angle the sum of their sizes times the number of times that they take it, the sum of
+/// their sizes, and of the sizes of those with a power of the factor.
 #[derive(Clone, Copy)]
 pub(crate) struct RowSums {
     pub elongation: u64,
@@ -143,7 +143,7 @@ fn most(factors: MeanFactors, sums: RowSums) -> i128
     ((sizes + powered) * GREATEST_SINE) as i128
 }
 
-/// An end of a sum, no further out than a sum may be.
+/// An endpoint of a sum, no further out than a sum may be.
 #[inline(always)]
 fn cut(end: i128, most: i128) -> i128
     requires some { pos 0 ≤ℤ most }
@@ -165,8 +165,8 @@ fn all_known(turns: &MeanTurns) -> bool
         && turns.latitude_argument.known
 }
 
-/// The sum of the rows of a table by the mean angles of a moment and the factor, which come to so much. It is never wider than any sum
-/// may be, and that where an angle isn't known.
+/// The sum of the rows of a table by the mean angles of a moment and the factor, which have these totals. It is never wider than any
+/// sum may be, and that where an angle isn't known.
 pub(crate) fn sum_of_rows<S, T: MultipleRow<S>>(
     rows: &[T],
     turns: &MeanTurns,

@@ -1,4 +1,4 @@
-//! Rows of waves as they are summed.
+//! Rows of periodic terms as they are summed.
 ghost use Rattle.std.specs.Prelude.{◌≡◌, ◌≤◌, ◌^◌, ◌-◌, ℕ, ℤ, pos, neg_ℤ, ◌≤ℤ◌, ◌<ℤ◌, ◌+ℤ◌, ◌-ℤ◌, ◌*ℤ◌};
 ghost use Rattle.book_model.specs.Interval.{between, ◌⊆◌};
 ghost use Rattle.book_model.specs.declared.polynomial.Wave.{Wave};
@@ -10,11 +10,11 @@ ghost use Rattle.periodic_terms.specs.Turning.{IsTurning, AreNear, turning_wave_
 
 use crate::sines::sine_at_turn;
 
-/// 2⁶⁴ parts of a turn, a turn.
+/// A turn, in the 2⁶⁴ parts of binary angles.
 const TURN: i128 = 1 << 64;
 
-/// A wave as it is summed: its size; its phase in 2⁻⁶⁴ turns, and its rate in 2⁻⁸⁰ turns a day, both rounded down. Over 2²⁰ days the
-/// rate's rounding makes 2⁻⁶⁰ turns, about as much as the other roundings of a row.
+/// A periodic term as it is summed: its size; its phase in 2⁻⁶⁴ turns, and its rate in 2⁻⁸⁰ turns a day, both rounded down. Over 2²⁰
+/// days the rate's rounding makes 2⁻⁶⁰ turns, about as much as the other roundings of a row.
 #[derive(Clone, Copy)]
 pub struct TurningWave {
     pub size: i32,
@@ -31,7 +31,7 @@ fn floor_64(number: i128) -> i128
     number >> 64
 }
 
-/// The product of a rate and a number of days, which counts 2⁻¹²⁸ turns: it wraps at a turn as its number does.
+/// The product of a rate and a number of days, in units of 2⁻¹²⁸ turns: it wraps at a turn as its number does.
 #[inline(always)]
 fn turned(rate: i128, mid: i128) -> i128
     ensures value { result ≡ int_wrap w128 (rate *ℤ mid) }
@@ -49,7 +49,7 @@ pub(crate) fn low_64(number: i128) -> u64
     (number - floor_64(number) * TURN) as u64
 }
 
-/// The angle of a row in the middle of the days, which counts 2⁻⁴⁸ days, in 2⁻⁶⁴ turns; whole turns are left out.
+/// The angle of a row in the middle of the days, in units of 2⁻⁴⁸ days, in 2⁻⁶⁴ turns; whole turns are left out.
 #[inline(always)]
 fn turn_at(phase: u64, rate: i128, mid: i128) -> u64
     ensures value { pos result ≡ (pos phase +ℤ turn_part rate mid) -ℤ whole_turns
@@ -70,8 +70,8 @@ fn product_of(size: i32, sine: i64) -> i128
     i128::from(size) * i128::from(sine)
 }
 
-/// What a row adds in the middle of the days, which counts 2⁻⁴⁸ days, in parts of 2⁻⁵⁶: for days around it the wave is within the row's
-/// radius of that.
+/// What a row adds in the middle of the days, in units of 2⁻⁴⁸ days, in parts of 2⁻⁵⁶: for days around it the periodic term is within
+/// the row's radius of that.
 #[inline(always)]
 pub(crate) fn row_at(row: &TurningWave, mid: i128) -> i128
     ensures holds { (w : World) (x : Expression) (v : Wave) (width : ℕ) (lo hi : ℤ)

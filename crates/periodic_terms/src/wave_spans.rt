@@ -1,4 +1,4 @@
-//! The sum of the rows of a table over a span of days, as a span.
+//! The sum of the rows of a table over an interval of days, as a span.
 ghost use Rattle.std.specs.Prelude.{◌≡◌, ◌≤◌, ◌/◌, ◌*◌, ◌^◌, ℕ, ℤ, pos, neg_ℤ, ◌≤ℤ◌, ◌+ℤ◌, ◌-ℤ◌, ◌*ℤ◌, length, List, IfSome, IsSome};
 ghost use Rattle.book_model.specs.Interval.{Interval, between, ◌⊆◌};
 ghost use Rattle.book_model.specs.declared.polynomial.Wave.{Wave};
@@ -14,10 +14,10 @@ use crate::wave_sums::sum_at;
 use encl_core::Span;
 use encl_core::parts::ONE;
 
-/// 2²⁰ days, which count 2⁻⁵⁶: all that the table of corrections has, and the days of every fact, lie within them.
+/// 2²⁰ days, in units of 2⁻⁵⁶: all that the table of ΔT has, and the days of every fact, lie within them.
 const FAR: i128 = 1 << 76;
 
-/// 64 days, which count 2⁻⁵⁶. A width of 64 bits holds them, and beyond them a sum of the sky's waves is as wide as it may be.
+/// 64 days, in units of 2⁻⁵⁶. A width of 64 bits holds them, and beyond them a sum of the sky's periodic terms is as wide as it may be.
 const LONG: i128 = 1 << 62;
 
 /// How many parts of 2⁻⁵⁶ the sine of a row is off at most beside what its angle moves over the days: 3 are its own. The angle is off by
@@ -28,8 +28,9 @@ const ROUNDINGS: u128 = 28;
 /// How many parts of 2⁻⁵⁶ days are one of 2⁻⁴⁸.
 const PARTS: i128 = 1 << 8;
 
-/// The middle of a span of days, which counts 2⁻⁴⁸, rounded down; `None` further than 2²⁰ days from 0. So fine a unit costs nothing, and
-/// with a rate in 2⁻⁸⁰ turns a day makes one that wraps at a turn. Of coarse days, whose ends count 2⁻³⁶, the middle is exact.
+/// The middle of an interval of days, in units of 2⁻⁴⁸, rounded down; `None` further than 2²⁰ days from 0. So fine a unit costs
+/// nothing, and with a rate in 2⁻⁸⁰ turns a day makes one that wraps at a turn. Of coarse days, whose endpoints are in units of
+/// 2⁻³⁶, the middle is exact.
 #[inline(always)]
 fn middle_of(days: Span) -> Option<i128>
     ensures low { IfSome result (λ m. neg_ℤ (pos (2 ^ 76)) ≤ℤ days.lo) }
@@ -59,7 +60,7 @@ fn part_of(days: i128) -> u64
     days as u64
 }
 
-/// The greater of how far two ends are from a middle, where that is at most 64 days.
+/// The greater of how far two endpoints are from a middle, where that is at most 64 days.
 #[inline(always)]
 fn greater_of(before: i128, after: i128) -> Option<u64>
     requires some { pos 0 ≤ℤ (before +ℤ after) }
@@ -98,7 +99,7 @@ fn width_around(days: Span, mid: i128) -> Option<u64>
     greater_of(middle - days.lo, days.hi - middle)
 }
 
-/// A slope, which counts 2⁻³², times a width, rounded down.
+/// A slope, in units of 2⁻³², times a width, rounded down.
 #[inline(always)]
 fn moved_by(width: u64, slope: u64) -> u128
     ensures value { result ≡ width * slope / 2 ^ 32 }
@@ -107,7 +108,7 @@ fn moved_by(width: u64, slope: u64) -> u128
     u128::from(width) * u128::from(slope) >> 32
 }
 
-/// How far the sum is off at most: a slope, which counts 2⁻³², times the width of the days, and 28 times the sizes.
+/// How far the sum is off at most: a slope, in units of 2⁻³², times the width of the days, and 28 times the sizes.
 #[inline(always)]
 fn radius_of(width: u64, slope: u64, sizes: u64) -> i128
     requires few { sizes ≤ 2 ^ 40 }
@@ -144,7 +145,7 @@ fn near_sum(rows: &[TurningWave], slope: u64, sizes: u64, days: Span) -> Option<
     })
 }
 
-/// From and to where a sum of waves lies at any time: it is no further from 0 than its sizes.
+/// From and to where a sum of periodic terms lies at any time: it is no further from 0 than its sizes.
 pub(crate) fn any_sum(sizes: u64) -> Span
     requires sizes { sizes ≤ 2 ^ 40 }
     ensures holds { (w : World) (x : Expression) (vs : List Wave) (slope : ℕ) → HasReach vs slope sizes
@@ -159,7 +160,7 @@ pub(crate) fn any_sum(sizes: u64) -> Span
     }
 }
 
-/// What lies in both of two spans; where they don't meet, an end of the second.
+/// What lies in both of two spans; where they don't meet, an endpoint of the second.
 #[inline(always)]
 fn common(span: Span, other: Span) -> Span
     ensures holds { (i : Interval) → i ⊆ between (units_of_56 span.lo) (units_of_56 span.hi)
@@ -175,8 +176,8 @@ fn common(span: Span, other: Span) -> Span
     }
 }
 
-/// The sum of the waves of the rows over a span of days, in parts of 2⁻⁵⁶. It holds the definition's over all days. The slope is a 57th
-/// of the sum of the sizes times the rates, in 2⁻³²: over known days the sum is hardly wider than that times the days.
+/// The sum of the periodic terms of the rows over an interval of days, in parts of 2⁻⁵⁶. It holds the definition's over all days. The
+/// slope is a 57th of the sum of the sizes times the rates, in 2⁻³²: over known days the sum is hardly wider than that times the days.
 pub fn sum_over(rows: &[TurningWave], slope: u64, sizes: u64, days: Span) -> Span
     requires few { length rows.now ≤ 2 ^ 32 }
     requires sizes { sizes ≤ 2 ^ 40 }

@@ -11,8 +11,8 @@ ghost use Rattle.periodic_terms.specs.Turning.{AreTurning, AreNear, turning_wave
 
 use crate::wave_rows::{TurningWave, row_at};
 
-/// The sum of the rows in the middle of the days, which counts 2⁻⁴⁸ days, in parts of 2⁻⁵⁶. It has 128 bits: the sun's sizes come to
-/// nearly 2²⁰, and 2⁵⁶ times that is no number of 64.
+/// The sum of the rows in the middle of the days, in units of 2⁻⁴⁸ days, in parts of 2⁻⁵⁶. It has 128 bits: the sun's sizes add up
+/// to nearly 2²⁰, and 2⁵⁶ times that is no number of 64.
 #[inline(always)]
 pub(crate) fn sum_at(rows: &[TurningWave], mid: i128) -> i128
     requires few { length rows.now ≤ 2 ^ 32 }

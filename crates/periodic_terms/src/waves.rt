@@ -12,8 +12,8 @@ use crate::wave_rows::TurningWave;
 use crate::wave_spans::{any_sum, sum_over};
 use encl_core::Enclosure;
 
-/// The sum of the waves of the rows over days. It holds the definition's over all days; the width is told at the scale of 2⁻⁵⁶, of days
-/// within 2²⁰ of 0 that are known to 64 days.
+/// The sum of the periodic terms of the rows over days. It holds the definition's over all days; the width is told at the scale of
+/// 2⁻⁵⁶, of days within 2²⁰ of 0 that are known to 64 days.
 pub fn sum_of_waves<E: Enclosure>(rows: &[TurningWave], slope: u64, sizes: u64, days: E) -> E
     requires few { length rows.now ≤ 2 ^ 32 }
     requires sizes { sizes ≤ 2 ^ 40 }

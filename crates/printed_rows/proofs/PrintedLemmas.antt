@@ -39,7 +39,7 @@ counted old new lines count seed os all right written results = record {
   results = results ∙ all_results os;
 }
 
--- lines, outcomes that are right for them, and a front of their text
+-- lines, outcomes that are right for them, and a prefix of their text
 pub cut_short : (old new : Option (List ℕ)) (lines : List (List ℕ)) (os : List Outcome) → AreRight WRITTEN lines (map line_outcome os)
     → AppendsFront old new (text lines (map line_outcome os)) → CutShort old new lines
 cut_short old new lines os right front = record { outcomes = map line_outcome os; right = right; front = front }

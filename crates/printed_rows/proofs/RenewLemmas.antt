@@ -1,4 +1,4 @@
--- What an upgrade makes of the lines of a printed file.
+-- What an upgrade makes of the lines of a certificate.
 use Rattle.std.proofs.Common.{◌≡◌, ◌∙◌, ℕ, Bool, List, [], ◌∷◌, map}
 use Rattle.std.specs.List.{AllZip, list_all}
 use Rattle.std.specs.declared.option.Option.{Option}
@@ -47,7 +47,7 @@ renewed_whole old new lines os all renews written results = record {
   results = results ∙ all_results os;
 }
 
--- and a front of it
+-- and a prefix of it
 pub renewed_cut : (old new : Option (List ℕ)) (lines : List CertLine) (os : List Outcome) → AllZip Renews lines (map line_outcome os)
     → AppendsFront old new (text (map words_in lines) (map line_outcome os)) → RenewedCutShort old new lines
 renewed_cut old new lines os renews front = record { outcomes = map line_outcome os; renews = renews; front = front }

@@ -31,7 +31,7 @@ pub text_on : (a b c : Option (List ℕ)) (t w w' : List ℕ) (seen seen' : List
     → Wrote a c t (w' ++ text_from seen' (i + 1) (drop (i + 1) lines) (map line_outcome (drop (i + 1) os)))
 text_on a b c t w w' seen seen' i lines os d o h k e old s new = rw s (buffered_on a b c t w _ w' _ (rw (text_split seen i lines os d o h k e) at old) new)
 
--- a front of one more block is put
+-- a prefix of one more block is put
 pub text_front : (a b c : Option (List ℕ)) (t w : List ℕ) (seen : List Fact) (i : ℕ) (lines : List (List ℕ)) (os : List Outcome) (d : List ℕ) (o : Outcome)
     → i < length lines → i < length os → o ≡ get_or os i o
     → Wrote a b t (w ++ text_from seen i (drop i lines) (map line_outcome (drop i os)))
@@ -54,7 +54,7 @@ pub text_ended : {T E : Type 0} (r : Result T E) (a b c : Option (List ℕ)) (t 
 text_ended (Ok x) a b c t left old new = wrote_flushed a b c t left old new
 text_ended (Err e) a b c t left old new = tt
 
--- the last call writes a front of what is left
+-- the last call writes a prefix of what is left
 pub text_cut : {T E : Type 0} (r : Result T E) (a b c : Option (List ℕ)) (t left : List ℕ) → Wrote a b t left → OnErr r (AppendsFront b c left)
     → OnErr r (AppendsFront a c t)
 text_cut (Ok x) a b c t left old new = tt

@@ -1,4 +1,4 @@
--- What is written of a sample: how many of its lines come to what, and how many facts their text has.
+-- What is written of a sample: how many of its lines have each outcome, and how many facts their text has.
 use Rattle.std.specs.Prelude.{◌≡◌, ℕ, Bool, true, false, not, List, [], ◌∷◌, length, filter, codes, decimal}
 use Rattle.std.specs.List.{concat, list_all}
 use Rattle.std.specs.declared.option.Option.{Option}
@@ -26,7 +26,7 @@ is_refused (resolved x facts) = not (is_shown x)
 is_refused (undecided f u) = false
 is_refused (void f s) = false
 
--- whether what a line comes to is of the kind
+-- whether the outcome of a line is of the kind
 abbrev pub is_of : OutcomeKind → LineOutcome → Bool
 is_of Decided = is_result
 is_of Undecided = is_undecided
@@ -49,7 +49,7 @@ counts_text count seed a b c d facts =
     decimal c
     ∷ codes " refused " ∷ decimal d ∷ codes " facts " ∷ decimal facts ∷ codes "\n" ∷ [])
 
--- the line of a sample whose lines come to this
+-- the line of a sample whose lines have these outcomes
 abbrev pub sample_text : (count seed : ℕ) → List LineOutcome → List ℕ
 sample_text count seed os = counts_text count seed (length (filter is_result os)) (length (filter is_undecided os)) (length (filter is_void os))
     (length (filter is_refused os)) (facts_in os)
@@ -61,7 +61,7 @@ pub record Counted (old new : Option (List ℕ)) (lines : List (List ℕ)) (coun
   pub written : Appends old new (sample_text count seed outcomes)
   pub results : all_results ≡ list_all is_result outcomes
 
--- a front of such a line stands there
+-- a prefix of such a line stands there
 pub record CountCutShort (old new : Option (List ℕ)) (lines : List (List ℕ)) (count seed : ℕ) : Type 0 where
   pub outcomes : List LineOutcome
   pub right : AreRight WRITTEN lines outcomes

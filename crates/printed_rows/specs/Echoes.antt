@@ -14,7 +14,7 @@ use Rattle.printed_rows.specs.declared.echoes.Echoes.TheVariants as echoes
 abbrev pub echo_line : Echo → List ℕ
 echo_line echo = three_words_text echo.from echo.date echo.to
 
--- the words of a line of a printed file, where it has them
+-- the words of a line of a certificate, where it has them
 abbrev pub words_in : CertLine → List ℕ
 words_in (line.Shown echo result facts) = echo_line echo
 words_in (line.TooFar echo day facts) = echo_line echo

@@ -15,7 +15,7 @@ pub record Printed (old new : Option (List ℕ)) (lines : List (List ℕ)) (all_
   pub written : Appends old new (text lines outcomes)
   pub results : all_results ≡ list_all is_result outcomes
 
--- a front of such a text stands there
+-- a prefix of such a text stands there
 pub record CutShort (old new : Option (List ℕ)) (lines : List (List ℕ)) : Type 0 where
   pub outcomes : List LineOutcome
   pub right : AreRight WRITTEN lines outcomes

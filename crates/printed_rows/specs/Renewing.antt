@@ -1,4 +1,4 @@
--- What an upgrade makes of the lines of a printed file, and what it writes.
+-- What an upgrade makes of the lines of a certificate, and what it writes.
 use Rattle.std.specs.Prelude.{◌≡◌, ℕ, ◌==◌, if◌then◌else◌, Bool, List, map}
 use Rattle.std.specs.List.{AllZip, list_all}
 use Rattle.std.specs.declared.option.Option.{Option}
@@ -34,7 +34,7 @@ pub record Renewed (old new : Option (List ℕ)) (lines : List CertLine) (all_re
   pub written : Appends old new (text (map words_in lines) outcomes)
   pub results : all_results ≡ list_all is_result outcomes
 
--- a front of such a text stands there
+-- a prefix of such a text stands there
 pub record RenewedCutShort (old new : Option (List ℕ)) (lines : List CertLine) : Type 0 where
   pub outcomes : List LineOutcome
   pub renews : AllZip Renews lines outcomes

@@ -10,7 +10,7 @@ use Rattle.printed_rows.specs.declared.text.WriteStop.TheVariants.{Fault, Memory
 abbrev pub WritesAll : {S T E : Type 0} → (S → Option (List ℕ)) → (old new : S) → List ℕ → Result T E → Type 0
 WritesAll written old new bytes result = OnOk result (Appends (written old) (written new) bytes)
 
--- and where it failed, a front of them
+-- and where it failed, a prefix of them
 abbrev pub WritesFront : {S T E : Type 0} → (S → Option (List ℕ)) → (old new : S) → List ℕ → Result T E → Type 0
 WritesFront written old new bytes result = OnErr result (AppendsFront (written old) (written new) bytes)
 

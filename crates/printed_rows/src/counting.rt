@@ -1,4 +1,4 @@
-//! Computes rows, and writes how many come to what, in one line of counts.
+//! Computes rows, and writes how many have each outcome, in one line of counts.
 ghost use Rattle.std.specs.Prelude.{◌≡◌, ◌≤◌, ◌<◌, ◌^◌, if◌then◌else◌, not, length, map, filter, IfOk, OnOk, IsErrOf};
 ghost use Rattle.std.specs.Io.KnownBytes.{Keeps};
 ghost use Rattle.book_model.specs.lines.Outcomes.{is_result};
@@ -25,7 +25,7 @@ use rayon::prelude::*;
 use std::alloc::{AllocError, Global};
 use std::thread::Threads;
 
-/// What a line of a sample comes to: a result, an open test, a void, or a refusal, by itself or by computing.
+/// The outcome of a line of a sample: a result, an undecided test, a void, or a refusal, by itself or by computing.
 #[derive(Clone, Copy, Debug, PartialEq, Eq)]
 enum OutcomeKind {
     Decided,
@@ -48,7 +48,7 @@ fn is_refused(outcome: &Outcome) -> bool
     }
 }
 
-/// Whether a line without a result has an open test, and not a void.
+/// Whether a line without a result has an undecided test, and not a void.
 fn is_open(halt: &Halt) -> bool
     ensures open { result ≡ is_undecided (halt_outcome halt.now) }
     ensures void { not result ≡ spec.is_void (halt_outcome halt.now) }
@@ -56,7 +56,7 @@ fn is_open(halt: &Halt) -> bool
     matches!(halt, Halt::Undecided(_, _))
 }
 
-/// Whether an outcome is an open test.
+/// Whether an outcome is an undecided test.
 fn is_undecided_line(outcome: &Outcome) -> bool
     ensures undecided { result ≡ is_undecided (line_outcome outcome.now) }
 {
@@ -88,7 +88,7 @@ fn is_of(kind: OutcomeKind, outcome: &Outcome) -> bool
     }
 }
 
-/// How many outcomes are of a kind. No piece of the list is shorter than `piece`.
+/// How many outcomes are of a kind. No chunk of the list is shorter than `piece`.
 fn count_in<R: Threads + Sync>(
     rt: &R,
     outcomes: &[Outcome],
@@ -118,12 +118,12 @@ struct Tally {
     refused: usize,
 }
 
-// `rayon` sets the number of its threads by the processors; a piece is a part for each job at
-// least.
-/// The shortest piece of a list that is counted by a thread of its own.
+// `rayon` sets the number of its threads by the processors; a chunk is at least the list over the number of threads asked
+// for.
+/// The shortest chunk of a list that is counted by a thread of its own.
 const SHORTEST_PIECE: usize = 1024;
 
-/// How many outcomes there are of each kind. One job counts them on one thread.
+/// How many outcomes there are of each kind. Where one thread is asked for, one counts them.
 fn tally_of<R: Threads + Sync>(rt: &R, outcomes: &[Outcome], jobs: usize) -> Tally
     requires some { 1 ≤ jobs }
     ensures decided { result.decided ≡ length (filter is_result (map line_outcome outcomes.now)) }
@@ -224,7 +224,7 @@ fn write_counts<K: Sink>(
     )
 }
 
-/// The line of counts of rows that come to this. The error comes where memory runs out.
+/// The line of counts of rows with these outcomes. The error comes where memory runs out.
 fn counts_of<R: Threads + Sync, E, G>(
     tools: &Tools<'_, R, E, G>,
     count: u32,
@@ -243,8 +243,8 @@ fn counts_of<R: Threads + Sync, E, G>(
     }
 }
 
-/// Writes how many of rows come to what, in one line that names a count and a seed, and says whether all have results. Where
-/// memory runs out nothing was written.
+/// Writes how many rows have each outcome, in one line that names a count and a seed, and says whether all have results.
+/// Where memory runs out nothing was written.
 pub fn count<R: Threads + Sync, K: Sink, E: Evaluator + Sync, G: Gate + Sync>(
     tools: &Tools<'_, R, E, G>,
     sink: &mut K,

@@ -10,9 +10,9 @@ use byte_streams::{Failed, Sink};
 use cert_text::{CertLine, Echo};
 use line_core::ThreeWords;
 
-// Apart from what is computed: a printed line may have no words, and so ask nothing, and yet stands
+// Apart from what is computed: a line of a certificate may have no words, and so ask nothing, and yet stands
 // in the text.
-/// Where the words of the lines of a text lie: in the rows that it is of, or in a printed file. Contracts see them as lines.
+/// Where the words of the lines of a text lie: in the rows that it is of, or in a certificate. Contracts see them as lines.
 #[derive(Clone, Copy)]
 pub enum Echoes<'a> {
     Rows(&'a Rows<'a>),
@@ -43,7 +43,7 @@ fn write_words<K: Sink>(sink: &mut K, number: u32, echo: &Echo) -> Result<(), Fa
     write_three(sink, number, words_of_echo(echo))
 }
 
-/// Writes the number of a line and the words of a line of a printed file, which has three.
+/// Writes the number of a line and the words of a line of a certificate, which has three.
 fn write_own_echo<K: Sink>(sink: &mut K, number: u32, line: &CertLine) -> Result<(), Failed>
     requires three { length (words_of (spec.words_in line.now)) ≡ 3 }
     ensures { Writes K.written K.faults sink.old sink.new
@@ -57,7 +57,7 @@ fn write_own_echo<K: Sink>(sink: &mut K, number: u32, line: &CertLine) -> Result
     }
 }
 
-/// Writes the number of a line and the words of the line at a place of a printed file, which has three. The lines are an
+/// Writes the number of a line and the words of the line at a place of a certificate, which has three. The lines are an
 /// argument of their own: of a slice in an enum it isn't known that each place has an address.
 fn write_echo_at<K: Sink>(
     sink: &mut K,

@@ -1,7 +1,7 @@
 //! Rows that are computed and printed. `Rows` are the lines of an input, or requests that the program makes itself, which
 //! contracts see as their lines. `print` computes an outcome for each and writes their text, in which each fact stands once,
-//! before the first line that rests on it; `count` computes them too, and writes in one line how many come to what. `renew`
-//! computes the lines of a printed file anew, by their words alone, and writes their text.
+//! before the first line that rests on it; `count` computes them too, and writes in one line how many have each outcome.
+//! `renew` computes the lines of a certificate anew, by their words alone, and writes their text.
 #![tactic(auto)]
 
 mod counting;

@@ -11,7 +11,7 @@ use indexmap::IndexSet;
 use std::alloc::{AllocError, Global};
 use std::marker::Model;
 
-/// A count in 32 bits. Where it doesn't fit, the answer is want of memory: so many facts or lines don't come from an
+/// A count in 32 bits. Where it doesn't fit, the answer is that memory ran out: so many facts or lines don't come from an
 /// input within the limit.
 pub fn count_of(count: usize) -> Result<u32, AllocError>
     ensures count { IfOk result (λ n. n ≡ count) }
@@ -36,7 +36,7 @@ pub(crate) struct Numbered {
 
 // A new fact takes 246 instructions here and another 94, in blocks of days 120 and 22, and in a set
 // whose hasher begins with a fixed number, so that facts can be chosen whose hashes are alike, 196 and 73.
-/// Facts, each once, numbered from 1 in order of first use. A look-up takes a time that hangs on no choice of facts.
+/// Facts, each once, numbered from 1 in order of first use. A look-up takes a time that depends on no choice of facts.
 #[derive(Drop)]
 pub(crate) struct NumberedFacts {
     facts: IndexSet<Fact, RowHashing>,

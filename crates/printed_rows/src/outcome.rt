@@ -39,7 +39,7 @@ pub(crate) fn outcomes_of<R: Threads + Sync, E: Evaluator + Sync, G: Gate + Sync
     )
 }
 
-/// Whether a line comes to what it asks for, and isn't refused by computing.
+/// Whether a line gets what it asks for, and isn't refused by computing.
 pub(crate) fn is_shown(resolved: &Resolved) -> bool
     ensures shown { result ≡ shown_in resolved.now }
 {

@@ -5,12 +5,12 @@ ghost use Rattle.printed_rows.specs.Writing.{WritesFront};
 
 use byte_streams::{Failed, Gathered, Sink, write_all};
 
-// The real sink makes a system call for each write. What a failed write leaves is a front of the
+// The real sink makes a system call for each write. What a failed write leaves is a prefix of the
 // text all the same.
 /// How many bytes may wait before they are written.
 pub const MANY: usize = 65536;
 
-/// Writes the bytes that wait, where they are more than so many. At an error a front of them was written.
+/// Writes the bytes that wait, where they are more than so many. At an error a prefix of them was written.
 #[tactic(auto, using(byte_streams::proofs::Flow::wrote_whole))]
 pub fn write_if_many<K: Sink>(
     sink: &mut K,

@@ -1,4 +1,4 @@
-//! Computes rows, and writes what they come to.
+//! Computes rows, and writes their outcomes.
 ghost use Rattle.printed_rows.specs.Printing.{Printed, CutShort};
 ghost use Rattle.printed_rows.specs.Rows.{AreSpelledRows, lines_in};
 ghost use Rattle.printed_rows.specs.Writing.{Performs};

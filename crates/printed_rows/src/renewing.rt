@@ -1,4 +1,4 @@
-//! What an upgrade makes of the lines of a printed file.
+//! What an upgrade makes of the lines of a certificate.
 ghost use Rattle.std.specs.Prelude.{◌≡◌, ◌≤◌, ◌<◌, length, map, All, IfOk, slice_index_or};
 ghost use Rattle.std.specs.List.{AllZip};
 ghost use Rattle.book_model.specs.declared.version.TheConstants.{WRITTEN};
@@ -84,8 +84,8 @@ fn renewed<E: Evaluator>(
     }
 }
 
-/// What an upgrade makes of each line of a file, in order. Lines are dealt to jobs as rows are, and each fact is evaluated once,
-/// or a few times where threads ask it at the same time. The error comes where memory runs out.
+/// What an upgrade makes of each line of a file, in order. Lines are dealt to threads as rows are, and each fact is evaluated
+/// once, or a few times where threads ask it at the same time. The error comes where memory runs out.
 fn renewed_lines<R: Threads + Sync, E: Evaluator + Sync, G: Gate + Sync>(
     tools: &Tools<'_, R, E, G>,
     lines: &[CertLine],

@@ -139,8 +139,8 @@ impl Rows<'_> {
     }
 
     // Requests of the program's own are few, and checked in some hundred instructions each.
-    /// What each asks, or the first rule that it breaks, in order: lines are read by so many jobs. The error comes where memory
-    /// runs out.
+    /// What each asks, or the first rule that it breaks, in order: lines are read by so many threads. The error comes where
+    /// memory runs out.
     pub fn asked<R: Threads + Sync>(
         &self,
         rt: &R,

@@ -147,11 +147,11 @@ fn write_page<K: Sink>(
     }
 }
 
-// It asks for outcomes that are right, since the form of a printed line rests on it: a result lists
+// It asks for outcomes that are right, since the form of a line of a certificate rests on it: a result lists
 // the facts that its rule asked.
 /// Writes the whole text of rows and their outcomes: a header, each line with its new facts before it, and the counts of
-/// lines and facts. At an error a front of the text was written. Counts of 32 bits are written: more lines or facts are
-/// answered as want of memory.
+/// lines and facts. At an error a prefix of the text was written. Counts of 32 bits are written: more lines or facts are
+/// answered as out of memory.
 #[tactic(auto, using(byte_streams::proofs::Flow::writing))]
 pub fn write_text<K: Sink>(
     alloc: Global,

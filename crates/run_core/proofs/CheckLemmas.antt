@@ -67,7 +67,7 @@ pub verdicts_on : (a b c : Option (List ℕ)) (t w w' : List ℕ) (i : ℕ) (lef
     → Wrote a c t (w' ++ (verdicts_after (i + 1) rest ++ counts))
 verdicts_on a b c t w w' i left rest v counts is old new = buffered_on a b c t w _ w' _ (rw (is, verdicts_split i v rest counts) at old) new
 
--- a front of one more verdict is put
+-- a prefix of one more verdict is put
 pub verdicts_front : (a b c : Option (List ℕ)) (t w : List ℕ) (i : ℕ) (left rest : List Verdict) (v : Verdict) (counts : List ℕ) → left ≡ v ∷ rest
     → Wrote a b t (w ++ (verdicts_after i left ++ counts)) → AppendsFront b c (w ++ verdict_text (i + 1) v) → AppendsFront a c t
 verdicts_front a b c t w i left rest v counts is old new = buffered_front a b c t w _ _ (rw (is, verdicts_split i v rest counts) at old) new
@@ -138,7 +138,7 @@ pub checks_come : (old new : Option (List ℕ)) (input : List ℕ) (f : CertFile
 checks_come old new input f true h k = record { of = f; read = h; checks = k }
 checks_come old new input f false h k = record { of = f; read = h; checks = k }
 
--- a stop is the same whatever would have been answered
+-- an early return is the same whatever would have been answered
 same_stop : {T U : Type 0} (stop other : WriteStop) → IsErrOf {T = T} (Err stop) other → IsErrOf {T = U} (Err stop) other
 same_stop stop other h = let same : stop ≡ other = cc in rw same refl
 
@@ -163,7 +163,7 @@ told (Bad line rule) reading old new NotAll h k = absurd k
 told (Bad line rule) reading old new BadText h k = (refl, record { line = line; rule = rule; read = h; written = k })
 told Memory reading old new is h k = absurd k
 
--- or a front of it
+-- or a prefix of it
 told_front : (fail : ReadFail) (reading : Reading) (old new : Option (List ℕ)) {cut : Type 0} → Answers (Err fail) reading
     → ((line rule : ℕ) → reading ≡ bad line rule → AppendsFront old new (bad_text line rule) → cut) → CutsFail fail old new → cut
 told_front (Bad line rule) reading old new h front k = front line rule h k

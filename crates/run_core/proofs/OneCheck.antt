@@ -1,4 +1,4 @@
--- A file no fact of which is answered by an open test has one text of verdicts.
+-- A file no fact of which is answered by an undecided test has one text of verdicts.
 use Rattle.std.proofs.Common.{◌≡◌, sym, ℕ, ℤ, Bool, true, false, if◌then◌else◌, List, [], ◌∷◌, length, filter}
 use Rattle.std.proofs.Common.{refl, arith}
 use Rattle.book_model.specs.declared.fact.Fact.{Fact}
@@ -35,7 +35,7 @@ one_site f s t h k =
     let q : outcome (run_of 40 f) ≡ void_at t = k.at_each_depth 40 (omega arith) in
     cc
 
--- two right answers for a fact, neither of them an open test, are one
+-- two right answers for a fact, neither of them an undecided test, are one
 one_answer : (f : Fact) (x y : Answer) → IsRightAnswer f x → IsRightAnswer f y → is_open x ≡ false → is_open y ≡ false
     → x ≡ y
 one_answer f (Undecided u) y h k a b = absurd (cc)
@@ -45,7 +45,7 @@ one_answer f (Value v) (Void s) h k a b = absurd (true_or_void f v s h.0 k)
 one_answer f (Void s) (Value v) h k a b = absurd (true_or_void f v s k.0 h)
 one_answer f (Void s) (Void t) h k a b = let same = one_site f s t h k in rw same refl
 
--- none of several is an open test: not the first, and none of the others
+-- none of several is an undecided test: not the first, and none of the others
 none_of : (x : Answer) (xs : List Answer) → length (filter is_open (x ∷ xs)) ≡ 0
     → (is_open x ≡ false) × (length (filter is_open xs) ≡ 0)
 none_of x xs h = by (is_open x) refl h
@@ -55,7 +55,7 @@ none_of x xs h = by (is_open x) refl h
     by true e k = absurd (omega arith)
     by false e k = (e, k)
 
--- right answers for facts, none of them an open test, are one list
+-- right answers for facts, none of them an undecided test, are one list
 one_list : (es : List (Fact × ℤ)) (xs ys : List Answer) → AreRightAnswers es xs → AreRightAnswers es ys
     → length (filter is_open xs) ≡ 0 → length (filter is_open ys) ≡ 0 → xs ≡ ys
 one_list [] [] [] h k a b = refl

@@ -82,7 +82,7 @@ fault_ended cut (Ok checked.BadText) e h = absurd (cc)
 fault_ended cut (Err stop.Fault) e h = h refl
 fault_ended cut (Err stop.Memory) e h = absurd (cc)
 
--- that which want of memory ended was too, or it wrote nothing
+-- that which ended out of memory was too, or it wrote nothing
 memory_ended : (cut : Type 0) (r : Result Checked WriteStop) → check_ended r ≡ Memory → (IsErrOf r stop.Memory → cut) → cut
 memory_ended cut (Ok checked.AllYes) e h = absurd (cc)
 memory_ended cut (Ok checked.NotAll) e h = absurd (cc)

@@ -1,4 +1,4 @@
--- What is written where a printed file is checked.
+-- What is written where a certificate is checked.
 use Rattle.std.specs.Prelude.{◌≡◌, ℕ, ◌+◌, ◌<◌, Bool, true, false, List, [], ◌∷◌, ◌++◌, length, map, filter, codes, decimal}
 use Rattle.std.specs.List.{concat, list_all}
 use Rattle.std.specs.declared.option.Option.{Option}
@@ -68,7 +68,7 @@ pub record ChecksFile (old new : Option (List ℕ)) (f : CertFile) (all_yes : Bo
   pub certified : (i : ℕ) → i < length f.lines → verdict_of f.version f.facts answers (line_at f i) ≡ Yes
       → IsCertifiedLine f.version f.facts (line_at f i)
 
--- a front of such a text stands there
+-- a prefix of such a text stands there
 pub record CutsFile (old new : Option (List ℕ)) (f : CertFile) : Type 0 where
   pub answers : List Answer
   pub right : AreRightAnswers f.facts answers
@@ -80,7 +80,7 @@ pub record ChecksText (old new : Option (List ℕ)) (input : List ℕ) (all_yes 
   pub read : grammar_of input ≡ file of
   pub checks : ChecksFile old new of all_yes
 
--- what comes of a printed file, all of whose verdicts are yes or not
+-- what comes of a certificate, all of whose verdicts are yes or not
 abbrev pub checked : Bool → Checked
 checked true = AllYes
 checked false = NotAll
@@ -92,7 +92,7 @@ TellsFail (Bad line rule) old new NotAll = ⊥
 TellsFail (Bad line rule) old new BadText = Appends old new (bad_text line rule)
 TellsFail Memory old new checked = ⊥
 
--- a front of it stands there
+-- a prefix of it stands there
 abbrev pub CutsFail : ReadFail → Option (List ℕ) → Option (List ℕ) → Type 0
 CutsFail (Bad line rule) old new = AppendsFront old new (bad_text line rule)
 CutsFail Memory old new = ⊥
@@ -110,7 +110,7 @@ Comes old new input AllYes = ChecksText old new input true
 Comes old new input NotAll = ChecksText old new input false
 Comes old new input BadText = RefusesText (grammar_of input) old new
 
--- a front of what is written for the bytes stands there
+-- a prefix of what is written for the bytes stands there
 pub data CheckCutShort (old new : Option (List ℕ)) (input : List ℕ) : Type 0 where
   cut_verdicts : (f : CertFile) → grammar_of input ≡ file f → CutsFile old new f → CheckCutShort old new input
   cut_bad : (line rule : ℕ) → grammar_of input ≡ bad line rule → AppendsFront old new (bad_text line rule) → CheckCutShort old new input

@@ -21,8 +21,8 @@ pub data Lines : Type 0 where
   given : Lines
   made : List Request → Lines
 
--- what is done: the text of what lines come to is printed, it is counted how many of a sample's lines come to what, a printed
--- file is judged, or one of an older version is renewed
+-- what is done: the text of lines with their outcomes is printed, it is counted how many of a sample's lines have
+-- each outcome, a certificate is judged, or one of an older version is renewed
 pub data Work : Type 0 where
   print : Lines → Work
   count : (count seed : ℕ) → Work

@@ -71,13 +71,13 @@ HasOneUpgrade input = (old new before after : Option (List ℕ)) (all each : Boo
     → (u : Upgrades old new input all) (v : Upgrades before after input each) → AreSettled u → AreSettled v
     → upgraded_text u ≡ upgraded_text v
 
--- whether a fact is answered by an open test
+-- whether a fact is answered by an undecided test
 abbrev pub is_open : Answer → Bool
 is_open (answer.Value v) = false
 is_open (answer.Undecided at) = true
 is_open (answer.Void site) = false
 
--- no fact of the file that was checked was answered by an open test
+-- no fact of the file that was checked was answered by an undecided test
 abbrev pub HasNoneOpen : {old new : Option (List ℕ)} {input : List ℕ} {all : Bool} → ChecksText old new input all
     → Type 0
 HasNoneOpen c = length (filter is_open c.checks.answers) ≡ 0
@@ -87,7 +87,7 @@ abbrev pub checked_text : {old new : Option (List ℕ)} {input : List ℕ} {all 
     → List ℕ
 checked_text c = verdicts_text (verdicts_of c.of c.checks.answers)
 
--- two texts of verdicts that were written for bytes, no fact of which was answered by an open test, are equal
+-- two texts of verdicts that were written for bytes, no fact of which was answered by an undecided test, are equal
 abbrev pub HasOneCheck : List ℕ → Type 0
 HasOneCheck input = (old new before after : Option (List ℕ)) (all each : Bool)
     → (c : ChecksText old new input all) (d : ChecksText before after input each) → HasNoneOpen c → HasNoneOpen d

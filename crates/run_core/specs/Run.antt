@@ -31,7 +31,7 @@ status_number Memory = 5
 status_number TooLarge = 6
 status_number BadText = 7
 
--- the line that is written where the words are in no form
+-- the line that is written where the arguments are in no form
 abbrev pub usage : List ℕ
 usage = codes "usage: calendrica convert | check | almanac YEAR | sample COUNT SEED | upgrade | east YEAR [--jobs N]\n"
 
@@ -76,15 +76,15 @@ abbrev pub lines_in : Lines → List ℕ → List (List ℕ)
 lines_in given input = lines_of input
 lines_in (made requests) input = map line_text requests
 
--- what work has done with an input: the text of lines stands there, or the counts of a sample's lines, or the verdicts of a printed
--- file, or the text that it is upgraded to
+-- what work has done with an input: the text of lines stands there, or the counts of a sample's lines, or the verdicts of a
+-- certificate, or the text that it is upgraded to
 abbrev pub IsDone : Work → Option (List ℕ) → Option (List ℕ) → List ℕ → Bool → Type 0
 IsDone (print lines) old new input all = Printed old new (lines_in lines input) all
 IsDone (count n seed) old new input all = Counted old new (sample_lines n seed) n seed all
 IsDone judge old new input all = ChecksText old new input all
 IsDone renew old new input all = Upgrades old new input all
 
--- a front of what work writes for an input stands there
+-- a prefix of what work writes for an input stands there
 abbrev pub IsCutOff : Work → Option (List ℕ) → Option (List ℕ) → List ℕ → Type 0
 IsCutOff (print lines) old new input = CutShort old new (lines_in lines input)
 IsCutOff (count n seed) old new input = CountCutShort old new (sample_lines n seed) n seed
@@ -102,7 +102,7 @@ IsRefused renew old new input = RefusesText (upgradable input) old new
 abbrev pub Finishes : Command → Option (List ℕ) → Option (List ℕ) → List ℕ → Bool → Type 0
 Finishes command old new input all = IsDone (work_of command) old new input all
 
--- a front of what the command writes for an input stands there
+-- a prefix of what the command writes for an input stands there
 abbrev pub IsCut : Command → Option (List ℕ) → Option (List ℕ) → List ℕ → Type 0
 IsCut command old new input = IsCutOff (work_of command) old new input
 
@@ -117,8 +117,8 @@ ended (Ok false) = Mixed
 ended (Err Fault) = WriteFault
 ended (Err stop.Memory) = Memory
 
--- how work on a printed file ends: with each verdict yes or each line a result, or not, with bytes that aren't such a file, or where
--- it stopped
+-- how work on a certificate ends: with each verdict yes or each line a result, or not, with bytes that aren't such a file, or
+-- where it stopped
 abbrev pub check_ended : Result Checked WriteStop → Status
 check_ended (Ok AllYes) = Done
 check_ended (Ok NotAll) = Mixed

@@ -1,4 +1,4 @@
--- What is written where a printed file of an older version is upgraded.
+-- What is written where a certificate of an older version is upgraded.
 use Rattle.std.specs.Prelude.{◌≡◌, ℕ, Bool, true, false, if◌then◌else◌, List, [], ◌∷◌}
 use Rattle.std.specs.declared.option.Option.{Option}
 use Rattle.book_model.specs.calendars.Versions.{header_line}
@@ -35,7 +35,7 @@ Becomes old new input AllYes = Upgrades old new input true
 Becomes old new input NotAll = Upgrades old new input false
 Becomes old new input BadText = RefusesText (upgradable input) old new
 
--- a front of what is written for the bytes stands there
+-- a prefix of what is written for the bytes stands there
 pub data UpgradeCutShort (old new : Option (List ℕ)) (input : List ℕ) : Type 0 where
   cut_text : (f : CertFile) → upgradable input ≡ file f → RenewedCutShort old new f.lines → UpgradeCutShort old new input
   cut_refusal : (line rule : ℕ) → upgradable input ≡ bad line rule → AppendsFront old new (bad_text line rule) → UpgradeCutShort old new input

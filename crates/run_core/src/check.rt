@@ -1,4 +1,4 @@
-//! Checks a printed file: a verdict for each of its lines, and how many there are of each kind.
+//! Checks a certificate: a verdict for each of its lines, and how many there are of each kind.
 ghost use Rattle.std.specs.Prelude.{◌≡◌, ◌≤◌, ◌<◌, ◌==◌, ◌&&◌, ◌+◌, ◌-◌, ◌^◌, ◌++◌, length, map, OnOk, IfOk, IsErrOf};
 ghost use Rattle.std.specs.List.{list_all};
 ghost use Rattle.cert_check.specs.Text.{counts_text};
@@ -19,7 +19,7 @@ use shelf_core::Shelf;
 use std::alloc::{AllocError, Global};
 use std::thread::Threads;
 
-/// What comes of bytes that are to be a printed file: every verdict is yes, or every line a result; or one isn't; or the bytes
+/// What comes of bytes that are to be a certificate: every verdict is yes, or every line a result; or one isn't; or the bytes
 /// aren't such a file.
 #[derive(Clone, Copy, Debug, PartialEq, Eq)]
 pub(crate) enum Checked {
@@ -29,7 +29,7 @@ pub(crate) enum Checked {
 }
 
 impl Checked {
-    /// What comes of a printed file whose verdicts are all yes, or whose lines are all results, or not.
+    /// What comes of a certificate whose verdicts are all yes, or whose lines are all results, or not.
     pub(crate) fn of(all: bool) -> Checked
         ensures checked { result ≡ spec.checked all }
     {
@@ -160,7 +160,7 @@ fn put_counts<K: Sink>(
 // Each verdict is written as it is found, and none is kept: a list of them would take up to four
 // times as much as the file.
 /// Writes the verdicts of the lines of a file, numbered from 1, and how many there are of each kind, and says whether all are
-/// yes. At an error a front of the text was written.
+/// yes. At an error a prefix of the text was written.
 fn write_verdicts<K: Sink>(
     alloc: Global,
     sink: &mut K,
@@ -233,7 +233,7 @@ fn check_file<R: Threads + Sync, K: Sink, E: Evaluator + Sync, G: Gate + Sync>(
     Ok(is_right)
 }
 
-/// Checks bytes, whoever made them: writes the verdicts of the lines of a printed file, or the line that says why they
+/// Checks bytes, whoever made them: writes the verdicts of the lines of a certificate, or the line that says why they
 /// are none.
 pub(crate) fn check<R: Threads + Sync, K: Sink, E: Evaluator + Sync, G: Gate + Sync>(
     tools: &Tools<'_, R, E, G>,

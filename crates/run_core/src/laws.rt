@@ -10,7 +10,7 @@ pub fn decided_lines()
 {}
 
 /// No line of a sample is refused: its days are those that a line may name. So the count of refused lines is always 0. And two
-/// lines of counts of one sample, none of whose lines is undecided, are equal, however many jobs computed them.
+/// lines of counts of one sample, none of whose lines is undecided, are equal, however many threads computed them.
 #[tactic(auto, using(crate::proofs::SampleRefusals::no_refusal, crate::proofs::OneSample::one_count))]
 pub fn samples()
     ensures no_refusal { (count seed : ℕ) → HasNoRefusal count seed }
@@ -18,13 +18,13 @@ pub fn samples()
 {}
 
 /// Bytes settle the text that they are upgraded to where no line with words is undecided: two such texts, each of right outcomes
-/// for the words and of the lines without words as they stand, are equal, however many jobs computed them.
+/// for the words and of the lines without words as they stand, are equal, however many threads computed them.
 pub fn upgrades()
     ensures one_text { (input : List ℕ) → HasOneUpgrade input }
 {}
 
-/// Bytes settle the text of their verdicts where no fact of the file is answered by an open test: two such texts, each by right
-/// answers for the facts, are equal, however many jobs answered them.
+/// Bytes settle the text of their verdicts where no fact of the file is answered by an undecided test: two such texts, each by
+/// right answers for the facts, are equal, however many threads answered them.
 pub fn checks()
     ensures one_text { (input : List ℕ) → HasOneCheck input }
 {}

@@ -1,8 +1,8 @@
 //! The outside of the program. `convert` reads lines, computes an outcome for each, and writes them with the facts that
 //! they rest on; `check` reads such a text and writes a verdict for each of its lines; `almanac` and `east` write what `convert`
-//! would write for lines of a year, and `sample` how many of many lines come to what; `upgrade` makes of a text of an older
+//! would write for lines of a year, and `sample` how many of many lines have each outcome; `upgrade` makes of a text of an older
 //! version one of the version that is written. Bytes come from a `Source` and go to a `Sink`, which count their faults; `run`
-//! does all the work, by as many jobs as its words say, and says how it ended by a `Status`.
+//! does all the work, by as many threads as its arguments say, and says how it ended by a `Status`.
 #![tactic(auto)]
 
 mod check;

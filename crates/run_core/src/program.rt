@@ -19,7 +19,7 @@ use printed_rows::{Rows, WriteStop, count, print};
 use std::alloc::{AllocError, Global};
 use std::thread::Threads;
 
-/// The line that is written where the words are in no form.
+/// The line that is written where the arguments are in no form.
 pub const USAGE: &str =
     "usage: calendrica convert | check | almanac YEAR | sample COUNT SEED | upgrade | east YEAR [--jobs N]\n";
 
@@ -63,7 +63,7 @@ fn read_input<S: Source>(
     }
 }
 
-/// How work on a printed file ends: with each verdict yes or each line a result, or not, with bytes that aren't such a file, or
+/// How work on a certificate ends: with each verdict yes or each line a result, or not, with bytes that aren't such a file, or
 /// where it stopped.
 fn status_of_check(checked: Result<Checked, WriteStop>) -> Status
     ensures status { result ≡ check_ended checked }
@@ -131,23 +131,23 @@ fn refuse_words<K: Sink>(sink: &mut K) -> Status
     }
 }
 
-/// All that the program does: looks at its words, reads the whole input, computes, and writes. The words name a command:
-/// `convert`, which writes what each line of the input comes to; `check`, which writes a verdict for each line of a printed
-/// file, whoever made it; `upgrade`, which writes what the lines of a printed file of an older version come to by the version that
-/// is written; `almanac YEAR` or `east YEAR`, which write what the lines of an almanac come to, or those of the months of a year
-/// in the calendars of the east; or `sample COUNT SEED`, which writes one line of counts of what the lines of a sample come to. The
-/// last three read nothing. Other words are answered by a usage line.
+/// All that the program does: looks at its arguments, reads the whole input, computes, and writes. The arguments name a command:
+/// `convert`, which writes the outcome of each line of the input; `check`, which writes a verdict for each line of a
+/// certificate, whoever made it; `upgrade`, which writes the outcomes of the lines of a certificate of an older version, by the
+/// version that is written; `almanac YEAR` or `east YEAR`, which write the outcomes of the lines of an almanac, or of those of the
+/// months of a year in the calendars of the east; or `sample COUNT SEED`, which writes one line of counts of the outcomes of a
+/// sample's lines. The last three read nothing. Other arguments are answered by a usage line.
 ///
 /// `Done` says that each line has a result, or that each verdict is yes, `Mixed` that some line or verdict isn't so,
-/// `Words` that the words are in no form and the usage line is written, `ReadFault` and `WriteFault` that a read or a
+/// `Words` that the arguments are in no form and the usage line is written, `ReadFault` and `WriteFault` that a read or a
 /// write failed, `Memory` that memory ran out, `TooLarge` that the input has more bytes than the limit (4,194,304, or
 /// 268,435,456 under `check` and `upgrade`), and `BadText` that the bytes to check aren't in the grammar, or those to upgrade no
 /// file of an older version, and a line says why.
 ///
-/// What lines, or the facts of a printed file, come to is computed in as many pieces as the words give by `--jobs`, 1 to 64, or
-/// in one. Each piece is worked in a thread of its own where one can be had, and `gate` is told as it begins; verdicts,
-/// text and writing are the work of one thread. The contract holds under every schedule: `run` starts its threads itself, and
-/// each clause speaks of whatever it returns, and names neither an order of threads nor the number of jobs.
+/// The outcomes of lines, or the answers for the facts of a certificate, are computed in as many chunks as the arguments give by
+/// `--jobs`, 1 to 64, or in one. Each chunk is worked in a thread of its own where one can be had, and `gate` is told as it begins;
+/// verdicts, text and writing are the work of one thread. The contract holds under every schedule: `run` starts its threads itself,
+/// and each clause speaks of whatever it returns, and names neither an order of threads nor the number of threads.
 pub fn run<R: Threads + Sync, S: Source, K: Sink, E: Evaluator + Sync, G: Gate + Sync>(
     rt: &R,
     alloc: Global,
@@ -174,7 +174,7 @@ pub fn run<R: Threads + Sync, S: Source, K: Sink, E: Evaluator + Sync, G: Gate +
         × (named (map string_bytes words.now) ≡ Some c)
         × (input : List ℕ) × HasRead (input_of c) (S.left source.old) (S.left source.new) input
         × Refuses c (K.written sink.old) (K.written sink.new) input }
-    // Words comes exactly where the words are in no form, unless the usage line can't be written
+    // Words comes exactly where the arguments are in no form, unless the usage line can't be written
     // or memory runs out. Nothing is read then.
     ensures words { result ≡ Status.Words → Appends (K.written sink.old) (K.written sink.new) usage }
     ensures words_only { result ≡ Status.Words → named (map string_bytes words.now) ≡ None }
@@ -191,7 +191,7 @@ pub fn run<R: Threads + Sync, S: Source, K: Sink, E: Evaluator + Sync, G: Gate +
     ensures source_later { S.faults source.old ≤ S.faults source.new }
     ensures sink_later { K.faults sink.old ≤ K.faults sink.new }
     // TooLarge comes only where the source gave more bytes than the limit; and where it tells
-    // more, nothing else comes but a fault or want of memory.
+    // more, nothing else comes but a fault or out of memory.
     ensures too_large { result ≡ Status.TooLarge → (c : Command)
         × (named (map string_bytes words.now) ≡ Some c)
         × (taken : List ℕ) × Consumes (S.left source.old) (S.left source.new) taken
@@ -203,7 +203,7 @@ pub fn run<R: Threads + Sync, S: Source, K: Sink, E: Evaluator + Sync, G: Gate +
     // Nothing is written at a fault of reading and for an input that is too large.
     ensures unwritten { (result ≡ Status.ReadFault) ⊎ (result ≡ Status.TooLarge)
         → sink.new ≡ sink.old }
-    // What a cut leaves is a front of such a text.
+    // What a cut leaves is a prefix of such a text.
     ensures cut { result ≡ Status.WriteFault → (c : Command)
         → named (map string_bytes words.now) ≡ Some c →
         (input : List ℕ) × HasRead (input_of c) (S.left source.old) (S.left source.new) input
@@ -214,7 +214,7 @@ pub fn run<R: Threads + Sync, S: Source, K: Sink, E: Evaluator + Sync, G: Gate +
         ⊎ (c : Command) × (named (map string_bytes words.now) ≡ Some c)
         × (input : List ℕ) × HasRead (input_of c) (S.left source.old) (S.left source.new) input
         × IsCut c (K.written sink.old) (K.written sink.new) input }
-    // With the words in the form, an input within the limit and no new fault, the run is finished,
+    // With the arguments in the form, an input within the limit and no new fault, the run is finished,
     // unless memory runs out.
     ensures finished { (c : Command) → named (map string_bytes words.now) ≡ Some c
         → CanRead (input_of c) (S.left source.old)

@@ -2,8 +2,8 @@
 ghost use Rattle.std.specs.Prelude.{◌≡◌};
 ghost use Rattle.run_core.specs.Run.{status_number};
 
-/// How a run ends: each line has a result, or some have none; the words aren't the form; a read failed, a write
-/// failed, memory ran out, the input is larger than the limit, or its text is out of form.
+/// How a run ends: each line has a result, or some have none; the arguments are in no form; a read failed, a
+/// write failed, memory ran out, the input is larger than the limit, or its text is out of form.
 #[derive(Clone, Copy, Debug, PartialEq, Eq)]
 pub enum Status {
     Done,

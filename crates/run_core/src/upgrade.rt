@@ -1,4 +1,4 @@
-//! Upgrades a printed file of an older version.
+//! Upgrades a certificate of an older version.
 ghost use Rattle.std.specs.Prelude.{◌≡◌, ◌≤◌, length};
 ghost use Rattle.book_model.specs.lines.Lines.{lines_of};
 ghost use Rattle.book_model.specs.declared.version.TheConstants.{WRITTEN as written};
@@ -43,8 +43,8 @@ fn read_older(alloc: Global, bytes: &[u8]) -> Result<CertFile, ReadFail>
     }
 }
 
-/// Upgrades bytes, whoever made them: writes the text of what the lines of a file of an older version come to by the version that is
-/// written, each by its words alone, and a line without words as it stands; or the line that says why the bytes are no such
+/// Upgrades bytes, whoever made them: writes the text of the outcomes of the lines of a file of an older version by the version that
+/// is written, each by its words alone, and a line without words as it stands; or the line that says why the bytes are no such
 /// file.
 pub(crate) fn upgrade<R: Threads + Sync, K: Sink, E: Evaluator + Sync, G: Gate + Sync>(
     tools: &Tools<'_, R, E, G>,

@@ -10,8 +10,8 @@ use line_core::split_lines;
 use printed_rows::Rows;
 use std::alloc::{AllocError, Global};
 
-/// What is done: the text of rows is printed, it is counted how many of a sample's rows come to what, a printed file is judged,
-/// or one of an older version is renewed.
+/// What is done: the text of rows is printed, it is counted how many of a sample's rows have each outcome, a certificate is
+/// judged, or one of an older version is renewed.
 #[derive(Drop)]
 pub(crate) enum Work<'a> {
     Print(Rows<'a>),

@@ -139,7 +139,7 @@ coarser_scaled p l f (bounded a b s k) (bounded c d t m) h i =
     (both_below most (2 ^ 102) l.factors size (2 ^ 58) l.sizes h.factors h.sizes)
     (scaled_width p k m (unsigned_abs f.num) f.below l.unit i.width h.unit))
 
--- ---- the corrections
+-- ---- ΔT
 module _ (p : ℕ) (l : Limits) (h : AreCoarser p l) (r : ℕ → Bound) where
   coarser_horner : (cs : List Frac) (c : Fraction) (k : ℕ)
       → Coarser p (bound_of finest r (horner_to cs c k)) (bound_of l r (horner_to cs c k))

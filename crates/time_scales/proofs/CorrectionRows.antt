@@ -1,4 +1,4 @@
--- The rows of the table of corrections: of which years they are computed, and what stands behind a correction.
+-- The rows of the table of ΔT: of which years they are computed, and what stands behind a value of ΔT.
 use Rattle.std.specs.Prelude.{◌≡◌, ℕ, ◌-◌, ◌+◌, ℤ, pos, negsuc, ◌+ℤ◌, ◌-ℤ◌, ◌≤ℤ◌, ◌<ℤ◌, Bool, true, ◌&&◌, nat_lt, unsigned_abs, length, Option, Some, None, refl}
 use Rattle.std.specs.List.{list_all}
 use Rattle.std.proofs.Common.{arith}
@@ -62,7 +62,7 @@ form_year y row e =
     let r = year_row is_form_kept y row forms_kept e in
     form_fits row.form row.first row.last y (length row.coefficients) r.passes r.from r.to
 
--- ---- what stands behind a correction
+-- ---- what stands behind ΔT
 pub record HasRow (y : ℤ) (c : Expression) : Type 0 where
   pub row : Correction
   pub found : row_of_year y ≡ Some row
@@ -76,7 +76,7 @@ row_of_value : (w : World) (y : ℤ) (c : Expression) (o : Option Correction) �
 row_of_value w y c None f e = absurd (none_valued w _ c e)
 row_of_value w y c (Some row) f e = record { row = row; found = f; same = valued_same w _ c e }
 
--- a correction that has a value is that of a row
+-- ΔT that has a value is that of a row
 pub row_behind : (w : World) (y : ℤ) (c : Expression) → outcome (run w (correction_of_year y)) ≡ valued c → HasRow y c
 unfolding correction_of_year
 row_behind w y c e = row_of_value w y c (row_of_year y) refl e

@@ -1,5 +1,5 @@
--- From where to where the values of the dynamical time correction lie, in milliseconds: computed for each year, with
--- ends rounded outwards.
+-- From where to where the values of ΔT (dynamical less universal time) lie, in milliseconds: computed for each year,
+-- with endpoints rounded outwards.
 use Rattle.std.specs.Prelude.{◌≡◌, suc, ◌-◌, ◌^◌, ◌&&◌, ◌||◌, int_le, int_lt, List, ℤ, pos, negsuc, ◌+ℤ◌, ◌*ℤ◌, ◌≤ℤ◌, Some, Bool, true, false, refl}
 use Rattle.std.specs.List.{list_all}
 use Rattle.std.proofs.Common.{arith, sym, ◌∙◌}
@@ -36,11 +36,11 @@ use Rattle.time_scales.proofs.CorrectionRows.{years_of, year_inside, HasRow, row
 use Rattle.time_scales.proofs.CorrectionWidths.{holds_from, holds_at}
 use Rattle.time_scales.proofs.HornerLemmas.{values_same}
 
--- ---- values, with ends that are rounded outwards
+-- ---- values, with endpoints that are rounded outwards
 abbrev at_20 : ℤ → Fraction
 at_20 n = record { num = n; below = 2 ^ 20 - 1 }
 
--- an end in 2^-20, rounded down
+-- an endpoint in 2^-20, rounded down
 abbrev down_20 : Fraction → ℤ
 down_20 a = floor_quotient (a.num *ℤ pos (2 ^ 20)) a.below
 
@@ -125,7 +125,7 @@ value_ranged w (arccosine x) = within_everything _
 value_ranged w (arctangent_of_two y x) = within_everything _
 value_ranged w (remainder m x q) = within_everything _
 
--- ---- each year's correction
+-- ---- each year's ΔT
 -- within 10,000,000 of 0
 abbrev fits : Interval → Bool
 fits everything = false
@@ -139,14 +139,14 @@ abbrev pub fits_days : Interval → Bool
 fits_days everything = false
 fits_days (between a b) = is_at_most (whole (negsuc 199)) a && is_at_most b (whole (pos 200))
 
--- the correction of a year by a form is within 200 days of 0, and in milliseconds within 10,000,000
+-- ΔT of a year by a form is within 200 days of 0, and in milliseconds within 10,000,000
 unfoldable has_few_days : CorrectionForm → List Frac → ℤ → Bool
 has_few_days form cs y = fits_days (ranged (computed_by form cs y))
 
 unfoldable is_value : CorrectionForm → List Frac → ℤ → Bool
 is_value form cs y = fits (ranged (rounded (computed_by form cs y)))
 
--- the corrections of a row are within 200 days of 0
+-- the values of ΔT of a row are within 200 days of 0
 unfoldable has_few_days_each : Correction → Bool
 has_few_days_each row = holds_from (has_few_days row.form row.coefficients) row.first (years_of row)
 
@@ -164,7 +164,7 @@ unfolding corrections has_values_each holds_from is_value ranged outwards sum pr
     horner_to fixed_of days_of_months first_day year_of_day seconds_of polynomial_of polynomial_to int_power
 rows_have_values = refl
 
--- what a row's correction is, as it is computed
+-- what a row's ΔT is, as it is computed
 computed_holds : (w : World) (form : CorrectionForm) (cs : List Frac) (y : ℤ) → value w (correction_by form cs y) ⊆ value w (computed_by form cs y)
 unfolding correction_by computed_by value
 computed_holds w (SecondsSince origin) cs y = within_refl _
@@ -179,7 +179,7 @@ rounded_holds w form cs y =
     within_trans (sum_within (product_within (value_proper w (correction_by form cs y)) (le_refl _) (computed_holds w form cs y) (within_refl _))
     (within_refl _)) (value_ranged w (rounded (computed_by form cs y)))
 
--- a correction that has a value lies within an interval that is within 200 days of 0
+-- ΔT that has a value lies within an interval that is within 200 days of 0
 pub record IsClose (i : Interval) : Type 0 where
   pub around : Interval
   pub fits : fits_days around ≡ true
@@ -196,7 +196,7 @@ correction_close w y c h =
       inside = rw (← h.same) (within_trans (computed_holds w h.row.form h.row.coefficients y) (value_ranged w (computed_by h.row.form h.row.coefficients y)));
     }
 
--- ---- the value of a day's correction
+-- ---- the value of a day's ΔT
 not_first : (p q : Bool) → (p || q) ≡ true → p ≡ false → q ≡ true
 not_first true q e f = absurd (cc)
 not_first false q e f = e
@@ -240,7 +240,7 @@ year_found w d y e =
     let t : c.cell_there ≡ year_of_day d = cc in
     sym c.leads_to ∙ t
 
--- the correction of a value day's year, in milliseconds
+-- ΔT of a value day's year, in milliseconds
 value_fits : (d y : ℤ) (c : Expression) (h : HasRow y c) → IsValueDay d → y ≡ year_of_day d
     → fits (ranged (rounded (computed_by h.row.form h.row.coefficients y))) ≡ true
 unfolding has_values_each is_value
@@ -251,7 +251,7 @@ value_fits d y c h v e =
     let f = not_first _ _ r.passes l in
     holds_at (is_value h.row.form h.row.coefficients) (years_of h.row) h.row.first y f r.from (year_inside h.row y r.from r.to)
 
--- a value of the correction lies within 10,000,000 of 0
+-- a value of ΔT lies within 10,000,000 of 0
 pub dt_value : (w : World) (d v : ℤ) → IsValueDay d → outcome (run w (dt_of d)) ≡ valued v → (negsuc 9999999 ≤ℤ v) × (v ≤ℤ pos 10000000)
 unfolding dt_of rounded_of
 dt_value w d v k e =

@@ -1,4 +1,4 @@
--- How narrow the corrections are at each scale: computed for each year at the finest scale, and no wider at the others.
+-- How narrow the values of ΔT are at each scale: computed for each year at the finest scale, and no wider at the others.
 use Rattle.std.specs.Prelude.{◌≡◌, ℕ, zero, suc, ◌+◌, ◌-◌, ◌*◌, ◌^◌, nat_le, nat_eq, ◌≤◌, ◌<◌, ℤ, pos, ◌+ℤ◌, ◌≤ℤ◌, ◌<ℤ◌, Bool, true, ◌&&◌, List, Option, Some, None, IfSome, refl}
 use Rattle.std.specs.List.{list_all}
 use Rattle.std.specs.Option.{option_map_or}
@@ -33,7 +33,7 @@ unfoldable pub holds_below : (ℕ → Bool) → ℕ → Bool
 holds_below f zero = true
 holds_below f (suc n) = f n && holds_below f n
 
--- the correction of a year by a form is at most so many units of 2^-bits wide
+-- ΔT of a year by a form is at most so many units of 2^-bits wide
 unfoldable is_close : (units bits : ℕ) → CorrectionForm → List Frac → ℤ → Bool
 is_close units bits form cs y = implies (bound_of (limits_of bits) no_bound (computed_by form cs y)) (correction_bound units bits)
 
@@ -41,7 +41,7 @@ is_close units bits form cs y = implies (bound_of (limits_of bits) no_bound (com
 unfoldable is_finest : (units : ℕ) → CorrectionForm → List Frac → ℤ → Bool
 is_finest units form cs y = implies (bound_of finest no_bound (computed_by form cs y)) (correction_bound units 56)
 
--- the corrections of a row
+-- the values of ΔT of a row
 unfoldable are_finest : (units : ℕ) → Correction → Bool
 are_finest units row = holds_from (is_finest units row.form row.coefficients) row.first (years_of row)
 
@@ -106,7 +106,7 @@ scale_is k h =
       width = eqb-true _ _ d.1;
     }
 
--- what holds of a correction's bound at the finest scale holds at the scale k bits finer than 2^-36
+-- what holds of ΔT's bound at the finest scale holds at the scale k bits finer than 2^-36
 implied_at : (k u : ℕ) → k < 21 → (r : ℕ → Bound) (form : CorrectionForm) (cs : List Frac) (y : ℤ)
     → implies (bound_of finest r (computed_by form cs y)) (correction_bound u 56) ≡ true
     → implies (bound_of (limits_of (36 + k)) r (computed_by form cs y)) (correction_bound u (36 + k)) ≡ true
@@ -127,7 +127,7 @@ row_close row u n y c a b h k =
     subst (λ t. implies (bound_of (limits_of t) no_bound (computed_by row.form row.coefficients y))
     (correction_bound u t) ≡ true) p f
 
--- a correction that keeps its computed bound is close
+-- ΔT that keeps its computed bound is close
 close : {E : Type 0} (shown : E → Interval) (u n : ℕ) (y : ℤ) (form : CorrectionForm) (cs : List Frac) (e : E) → is_close u n form cs y ≡ true
     → ((r : Reach) → Narrow shown (limits_of n) r (computed_by form cs y) e) → IsNarrow 0 (correction_bound u n) (shown e)
 unfolding is_close
@@ -140,7 +140,7 @@ by_units : {E : Type 0} (shown : E → Interval) (n : ℕ) (y : ℤ) (row : Corr
 by_units shown n y row e None t a b h k f = tt
 by_units shown n y row e (Some u) t a b h k f = close shown u n y row.form row.coefficients e (row_close row u n y t a b h k) f
 
--- the correction of a year is as close as its row promises
+-- ΔT of a year is as close as its row promises
 pub year_is_close : {E : Type 0} (shown : E → Interval) (n : ℕ) (y : ℤ) (row : Correction) (e : E) → row_of_year y ≡ Some row → 36 ≤ n → n ≤ 56
     → ((r : Reach) → Narrow shown (limits_of n) r (computed_by row.form row.coefficients y) e)
     → IfSome row.units (λ units. IsNarrow 0 (correction_bound units n) (shown e))

@@ -1,4 +1,4 @@
--- How wide the correction of a year is when it is taken again.
+-- How wide ΔT of a year is when it is taken again.
 use Rattle.std.specs.Prelude.{◌≡◌, ℕ, ◌+◌, ◌^◌, pos, neg_ℤ, Option, Some, None, Ok, IfSome}
 use Rattle.std.proofs.Common.{arith}
 use Rattle.std.proofs.lemmas.Int.{ints}
@@ -10,7 +10,7 @@ use Rattle.encl_core.proofs.Measuring.{looser, narrower}
 use Rattle.encl_core.specs.declared.span.Span.{Span}
 use Rattle.encl_core.specs.Kept.{shown_span, IsKeptAbout}
 
--- what may be kept of a correction
+-- what may be cached of ΔT
 pub kept_about : {E : Type 0} (shown : E → Interval) (n : ℕ) (o : Option Span) (e : E) → Measured n shown (IsCorrection (2 ^ 14)) (Ok e)
     → IfSome o (λ s. shown e ⊆ shown_span s) → IfSome o (λ s. shown_span s ⊆ shown e) → IfSome o (IsKeptAbout (2 ^ 30) (2 ^ 14) n)
 kept_about shown n None e m h k = k

@@ -1,4 +1,4 @@
--- Moments that are measured: the year, sums with a correction, centuries and sidereal time.
+-- Moments that are measured: the year, sums with ΔT, centuries and sidereal time.
 use Rattle.std.specs.Prelude.{◌≡◌, ℕ, ◌+◌, ◌*◌, ◌/◌, ◌^◌, ◌≤◌, ℤ, pos, negsuc, neg_ℤ, ◌-ℤ◌, ◌*ℤ◌, ◌≤ℤ◌, true, Result, Ok, Err, IfOk, IfErr, refl, if◌then◌else◌, ◌==◌, ◌+ℤ◌}
 use Rattle.std.proofs.Common.{arith}
 use Rattle.std.proofs.lemmas.Int.{ints}
@@ -29,13 +29,13 @@ year_at : (v : ℕ) (lo hi : ℤ) (f : Fail) → v ≤ 2 ^ 44 → ((hi -ℤ lo) 
 year_at v lo hi (undecided_at u) h k e = close_ends u Year v e.2 h (rw (e.0, e.1) k)
 year_at v lo hi (Void s) h k e = absurd e
 
--- an open year is as close as the moment is wide
+-- an undecided year is as close as the moment is wide
 pub year_close : (v : ℕ) (lo hi : ℤ) (i : Interval) (r : Result ℤ Fail) → v ≤ 2 ^ 44 → IsAbout (2 ^ 90) v i → between (units_of_56 lo) (units_of_56 hi) ⊆ i
     → IfErr r (HasYearEnds lo hi) → IfErr r IsClose
 year_close v lo hi i (Ok y) b h k o = tt
 year_close v lo hi i (Err f) b h k o = year_at v lo hi f b (inner_apart _ _ v lo hi i h k) o
 
--- ---- a moment whose correction is found lies in the table
+-- ---- a moment whose ΔT is found lies in the table
 unfoldable moment_world : (i : Interval) → IsProper i → World
 moment_world i p = record { depth = 40; arguments = λ k. i; proper = λ k. p }
 
@@ -55,8 +55,8 @@ pub moment_in_table : {E T : Type 0} (R : World → Expression → T → Type 0)
     ((w : World) (x : Expression) → Within shown w x t → Leads w (R w) (correction_at x) b a r) → IfOk r (λ v. IsInTable (shown t))
 moment_in_table R shown p t r h = found_in_table shown p t r (h (moment_world (shown t) (p t)) (argument 0) (within_moment shown p t))
 
--- ---- a moment of the table and its correction
--- the correction of a year is narrower than the table says
+-- ---- a moment of the table and its ΔT
+-- ΔT of a year is narrower than the table says
 pub correction_looser : {E : Type 0} (shown : E → Interval) (r : Result E Fail) → Measures (λ y. IsCorrection (2 ^ 14) (shown y)) r
     → Measures (λ y. IsCorrection (greatest_of CORRECTION 0) (shown y)) r
 correction_looser shown (Ok y) h = looser _ _ _ _ (2 ^ 14) (2 ^ 17) (shown y) (omega (arith, ints)) (omega (arith, ints)) (omega arith) h
@@ -81,14 +81,14 @@ module _ {E : Type 0} (shown : E → Interval) (n v : ℕ) (t c d : E) (p : n �
   correction_kept : Narrow shown (limits_of n) (record { width = v; bounds = moment_bounds }) (argument 1) c
   correction_kept = sloped shown (limits_of n) v (2 ^ 17) moment_bounds 1 (neg_ℤ (pos (2 ^ 30))) (pos (2 ^ 30)) 0 (2 ^ 17) c refl (omega arith) k
 
-  -- a moment of the table and its correction
+  -- a moment of the table and its ΔT
   pub sum_within : ((r : Reach) (x y : Expression) → Narrow shown (limits_of n) r x t → Narrow shown (limits_of n) r y c
       → Narrow shown (limits_of n) r (add x y) d) → IsDated 1 (v + 2 ^ 17) (shown d)
   sum_within f =
       measured shown n v moment_bounds (add (argument 0) (argument 1)) _ _ (2 ^ 40) (2 ^ 17) (v + 2 ^ 17) d p sum_reach (omega arith)
       (f (record { width = v; bounds = moment_bounds }) (argument 0) (argument 1) moment_kept correction_kept)
 
-  -- a moment of the table less its correction
+  -- a moment of the table less its ΔT
   pub difference_within : ((r : Reach) (x y : Expression) → Narrow shown (limits_of n) r x t → Narrow shown (limits_of n) r y c
       → Narrow shown (limits_of n) r (subtract x y) d) → IsDated 1 (v + 2 ^ 17) (shown d)
   difference_within f =
@@ -126,7 +126,7 @@ dated_from low high v (between x y) b h = record {
       { ordered = h.kept.ordered; above = h.kept.above; below = (drawn _ _ _ _ v (between x y) b h).kept.below; close = h.kept.close };
 }
 
--- such a moment and a correction
+-- such a moment and ΔT
 abbrev bounds_from : (later : ℤ) → ℕ → Bound
 bounds_from later k = if k == 0 then bounded (recent_from later) (table_to 0) (2 ^ 40) 0 else bounded (neg_ℤ (pos (2 ^ 30))) (pos (2 ^ 30)) 0 (2 ^ 17)
 

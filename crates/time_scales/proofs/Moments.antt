@@ -1,4 +1,4 @@
--- From where to where moments lie at which a formula has a value: a correction is known of few years, and is small.
+-- From where to where moments lie at which a formula has a value: ΔT is known of few years, and is small.
 use Rattle.std.specs.Prelude.{◌≡◌, int_le, ℤ, pos, negsuc, ◌+ℤ◌, ◌-ℤ◌, ◌&&◌, Some, Bool, true, refl}
 use Rattle.std.specs.List.{list_all}
 use Rattle.std.proofs.Common.{arith, sym, ◌∙◌}
@@ -25,7 +25,7 @@ use Rattle.book_model.specs.numbers.Ranges.{IsBetween, IsInTable}
 use Rattle.book_model.proofs.Estimates.{wider, difference_between, between_of_within, valued_same}
 use Rattle.book_model.proofs.FactRuns.{parts, decides, when_some}
 
--- ---- corrections
+-- ---- values of ΔT
 close_between : (i : Interval) → IsClose i → IsBetween (negsuc 199) (pos 200) i
 close_between i h = by h.around h.fits h.inside
   where
@@ -35,7 +35,7 @@ close_between i h = by h.around h.fits h.inside
         let t = both (is_at_most (whole (negsuc 199)) a) (is_at_most b (whole (pos 200))) f in
         between_of_within (negsuc 199) (pos 200) i (within_trans k (record { ends = (at_most_true _ _ t.0, at_most_true _ _ t.1) }))
 
--- the correction of a year is at most 200 days
+-- ΔT of a year is at most 200 days
 correction_between : (w : World) (y : ℤ) (c : Expression) → HasRow y c → IsBetween (negsuc 199) (pos 200) (value w c)
 correction_between w y c h = close_between _ (correction_close w y c h)
 
@@ -70,7 +70,7 @@ tabled_cell y c i t h =
     let u = first_day_rises (y +ℤ pos 1) (t.row.last +ℤ pos 1) (omega (arith, ints)) in
     wider (first_day y) (first_day (y +ℤ pos 1)) TABLE_START TABLE_END i (omega (arith, ints)) (omega (arith, ints)) h
 
--- a moment whose correction has a value, and that value
+-- a moment whose ΔT has a value, and that value
 pub corrected_in_table : (w : World) (x c : Expression) → outcome (run w (correction_at x)) ≡ valued c → IsInTable (value w x)
     × IsBetween (negsuc 199) (pos 200) (value w c)
 unfolding correction_at year_of

@@ -41,7 +41,7 @@ pub cube_keeps : {E : Type 0} (shown : E → Interval) (l : Limits) (r : Reach) 
 unfolding Keeps bound_of power_bound
 cube_keeps shown l r x e h = record { kept = h.kept }
 
--- what holds the multiples of two ends by a fraction holds the multiple of the interval
+-- what holds the multiples of two endpoints by a fraction holds the multiple of the interval
 interval_ends : (a b f : Fraction) (j : Interval) → IsMember (times a f) j → IsMember (times b f) j → product (between a b) (between f f) ⊆ j
 unfolding product
 interval_ends a b f everything h k = within_everything _

@@ -1,4 +1,4 @@
--- How narrow the corrections are at the scale 2^-56: computed for each year of the table.
+-- How narrow the values of ΔT are at the scale 2^-56: computed for each year of the table.
 use Rattle.std.specs.Prelude.{◌≡◌, ℕ, ◌^◌, ℤ, pos, neg_ℤ, Bool, true, List, Some, refl}
 use Rattle.std.specs.List.{list_all}
 use Rattle.std.proofs.Common.{arith}
@@ -17,7 +17,7 @@ use Rattle.time_scales.specs.Horner.{horner_to, horner_of}
 use Rattle.book_model.specs.programs.Widths.{IsCorrection}
 use Rattle.time_scales.proofs.CorrectionWidths.{no_bound, holds_from, holds_at}
 
--- the correction of a year by a form lies within a fourth of a day of 0, and is at most 2^-50 days wide
+-- ΔT of a year by a form lies within a fourth of a day of 0, and is at most 2^-50 days wide
 unfoldable is_tabled : CorrectionForm → List Frac → ℤ → Bool
 is_tabled form cs y = implies (bound_of (limits_at 56) no_bound (computed_by form cs y)) (bounded (neg_ℤ (pos (2 ^ 30))) (pos (2 ^ 30)) 0 (2 ^ 14))
 
@@ -36,7 +36,7 @@ year_tabled y row e =
     let r = year_row is_tabled_row y row rows_tabled e in
     holds_at (is_tabled row.form row.coefficients) (years_of row) row.first y r.passes r.from (year_inside row y r.from r.to)
 
--- a correction that keeps its computed bound
+-- ΔT that keeps its computed bound
 pub correction_within : {E : Type 0} (shown : E → Interval) (n : ℕ) (y : ℤ) (row : Correction) (e : E) → n ≡ 56 → row_of_year y ≡ Some row
     → ((r : Reach) → Narrow shown (limits_of n) r (computed_by row.form row.coefficients y) e) → IsCorrection (2 ^ 14) (shown e)
 unfolding is_tabled

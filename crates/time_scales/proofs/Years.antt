@@ -1,4 +1,4 @@
--- The year of a moment, by its two ends.
+-- The year of a moment, by its two endpoints.
 use Rattle.std.proofs.Common.{◌≡◌, ℕ, ℤ, pos, negsuc, ◌≤ℤ◌, ◌^◌, ◌-◌, ◌∙◌, sym, ap, arith, refl, Option, Some, None, Result, Ok, Err, IfOk, IfErr}
 use Rattle.std.specs.Int.{int_div_euclid}
 use Rattle.std.proofs.lemmas.Int.{ints}
@@ -21,7 +21,7 @@ use Rattle.encl_core.proofs.Quotients.{euclid_is}
 use Rattle.encl_core.proofs.Testing.{eq_yes, eq_no}
 use Rattle.time_scales.specs.Steps.{IsOpenYear, IsYearOpenFor}
 
--- the day of a moment that counts 2^-56
+-- the day of a moment in units of 2^-56
 pub day_is : (m q : ℤ) → q ≡ int_div_euclid m (pos (2 ^ 56)) → IsFloorQuotient q m (2 ^ 56 - 1)
 day_is m q e = let f = e ∙ euclid_is m (2 ^ 56) (omega arith) in rw f (floor_quotient_is m (2 ^ 56 - 1))
 
@@ -35,19 +35,19 @@ pub year_of_same_day : (k m p q y : ℤ) → p ≡ int_div_euclid k (pos (2 ^ 56
     → y ≡ cell_of years (units_of_56 k) → y ≡ cell_of years (units_of_56 m)
 year_of_same_day k m p q y d e s f = f ∙ sym (year_at_is k p d) ∙ ap year_of_day s ∙ year_at_is m q e
 
--- both ends fall in one year
+-- both endpoints fall in one year
 pub year_same : (lo hi p q : ℤ) → p ≡ cell_of years (units_of_56 lo) → q ≡ cell_of years (units_of_56 hi) → p ≡ q
     → cell_at years (between (units_of_56 lo) (units_of_56 hi)) ≡ Some p
 unfolding cell_at
 year_same lo hi p q e f h = let t = eq_yes (cell_of years (units_of_56 lo)) (cell_of years (units_of_56 hi)) (sym e ∙ h ∙ f) in rw (t, e) refl
 
--- the ends fall in different years
+-- the endpoints fall in different years
 pub year_apart : (lo hi p q : ℤ) → p ≡ cell_of years (units_of_56 lo) → q ≡ cell_of years (units_of_56 hi) → (p ≡ q → ⊥)
     → cell_at years (between (units_of_56 lo) (units_of_56 hi)) ≡ None
 unfolding cell_at
 year_apart lo hi p q e f n = let t = eq_no (cell_of years (units_of_56 lo)) (cell_of years (units_of_56 hi)) (λ h. n (e ∙ h ∙ sym f)) in rw t refl
 
--- two ends at scale 2^-56 are their own
+-- two endpoints at scale 2^-56 are their own
 pub own_ends : (lo hi : ℤ) → AreEnds lo hi (between (units_of_56 lo) (units_of_56 hi))
 own_ends lo hi = bounds (record { cross = refl }) (record { cross = refl })
 
@@ -78,16 +78,16 @@ same_open : (g : Grid) (lo hi : ℤ) (i j : Interval) → IsProper j → i ⊆ j
 same_open g lo hi i j p h k (between_cells e a) = between_cells (same_none g i j p k e) (same_ends lo hi i j h k a)
 same_open g lo hi i j p h k (too_far q e n b) = too_far q (same_cell g q i j p h k e) n b
 
--- ---- the ends of an enclosure, and the enclosure
+-- ---- the endpoints of an enclosure, and the enclosure
 span_proper : (lo hi : ℤ) → lo ≤ℤ hi → IsProper (between (units_of_56 lo) (units_of_56 hi))
 span_proper lo hi o = record { cross = omega (arith, ints) }
 
--- the year of the ends is that of what they show
+-- the year of the endpoints is that of what they show
 pub year_shared : (lo hi y : ℤ) (i : Interval) → lo ≤ℤ hi → i ⊆ between (units_of_56 lo) (units_of_56 hi) → between (units_of_56 lo) (units_of_56 hi) ⊆ i
     → cell_at years (between (units_of_56 lo) (units_of_56 hi)) ≡ Some y → cell_at years i ≡ Some y
 year_shared lo hi y i o h k e = same_cell years y i (between (units_of_56 lo) (units_of_56 hi)) (span_proper lo hi o) h k e
 
--- an open year of the ends is an open year of what they show
+-- an undecided year of the endpoints is an undecided year of what they show
 pub open_shared : (lo hi : ℤ) (n m : ℕ) (i : Interval) (f : Fail) → n ≡ m → lo ≤ℤ hi → i ⊆ between (units_of_56 lo) (units_of_56 hi)
     → between (units_of_56 lo) (units_of_56 hi) ⊆ i → IsOpenYear (between (units_of_56 lo) (units_of_56 hi)) n f → IsOpenYear i m f
 open_shared lo hi n m i (undecided_at u) e o h k y = (
@@ -97,7 +97,7 @@ open_shared lo hi n m i (undecided_at u) e o h k y = (
 )
 open_shared lo hi n m i (Void s) e o h k y = absurd y
 
--- an enclosure of every number leaves the year open
+-- an enclosure of every number leaves the year undecided
 pub open_everywhere : (i : Interval) → i ≡ everything → IsOpenCell years i (negsuc (2 ^ 127 - 1)) (pos (2 ^ 127 - 1))
 unfolding cell_at
 open_everywhere i e = rw e (between_cells refl (no_bounds (record { least = refl; greatest = refl })))
@@ -109,7 +109,7 @@ pub leads_year : {E : Type 0} {shown : E → Interval} {w : World} {x : Expressi
 unfolding year_of
 leads_year {x = x} {e = e} y b a h d n = rw n (leads_cell Year years x _ y answer (lies h) d (leads_answer refl))
 
--- a year that the enclosure leaves open
+-- a year that the enclosure leaves undecided
 pub leads_open_year : {E : Type 0} {shown : E → Interval} {w : World} {x : Expression} {e : E} (f : Fail) (b a : ℕ) → Within shown w x e
     → IsOpenYear (shown e) a f → a ≡ next_turn b → Leads w (Exact {A = ℤ}) (year_of x) b a (Err f)
 unfolding year_of

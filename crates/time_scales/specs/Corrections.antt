@@ -1,4 +1,4 @@
--- What is computed by each row of the table of corrections.
+-- What is computed by each row of the table of ΔT.
 use Rattle.std.specs.Prelude.{ℕ, ◌-◌, ◌*◌, ◌^◌, ◌≤◌, ℤ, pos, negsuc, ◌-ℤ◌, ◌≤ℤ◌, unsigned_abs, List, Option, Some, None}
 use Rattle.book_model.specs.declared.correction_rows.CorrectionForm.{CorrectionForm}
 use Rattle.book_model.specs.declared.correction_rows.CorrectionForm.TheVariants.{SecondsSince, SecondsByHundreds, DaysByCenturies}
@@ -17,7 +17,7 @@ IsFormYear (SecondsSince origin) n y = (n ≤ 7) × (unsigned_abs (y -ℤ origin
 IsFormYear SecondsByHundreds n y = Unit {0}
 IsFormYear DaysByCenturies n y = (pos 1 ≤ℤ y) × (y ≤ℤ pos 9999)
 
--- the correction by a form, in the order in which it is computed
+-- ΔT by a form, in the order in which it is computed
 unfoldable pub computed_by : CorrectionForm → List Frac → ℤ → Expression
 computed_by (SecondsSince origin) cs y = seconds_of cs origin y
 computed_by SecondsByHundreds cs y = scale (fraction_of SECOND) (horner_of cs (hundreds_of y))
@@ -35,7 +35,7 @@ abbrev pub units_in : Option Correction → Option ℕ
 units_in None = None
 units_in (Some row) = row.units
 
--- how many units of a scale the correction of a year is wide at most, where its row promises it
+-- how many units of a scale ΔT of a year is wide at most, where its row promises it
 unfoldable pub units_of_year : ℤ → Option ℕ
 units_of_year y = units_in (row_of_year y)
 

@@ -1,4 +1,4 @@
--- Where a year is open, its ends are those of the moment.
+-- Where a year is undecided, its bounds are those of the moment.
 use Rattle.std.specs.Prelude.{◌≡◌, ℕ, ℤ, pos, ◌+ℤ◌, ◌≤ℤ◌}
 use Rattle.book_model.specs.Interval.{Interval}
 use Rattle.book_model.specs.declared.fact.TheConstants.{FIRST_FACT_DAY, LAST_FACT_DAY}
@@ -7,12 +7,12 @@ use Rattle.book_model.specs.declared.fail.Fail.TheVariants.{Undecided, Void}
 use Rattle.book_model.specs.declared.site.Site.TheVariants.{Year}
 use Rattle.book_model.specs.programs.Widths.{IsWithin, centuries_to, recent_centuries_from}
 
--- a failure at the year, with these ends
+-- a failure at the year, with these bounds
 abbrev pub HasYearEnds : (lo hi : ℤ) → Fail → Type 0
 HasYearEnds lo hi (Undecided u) = (u.lo ≡ lo) × (u.hi ≡ hi) × (u.site ≡ Year)
 HasYearEnds lo hi (Void s) = ⊥
 
--- centuries from noon of 1 January 2000 to a recent moment of the years of which there are corrections, moved by at most a day
+-- centuries from noon of 1 January 2000 to a recent moment of the years of which ΔT is known, moved by at most a day
 abbrev pub AreRecentCenturies : ℕ → Interval → Type 0
 AreRecentCenturies v i = IsWithin recent_centuries_from centuries_to v i
 

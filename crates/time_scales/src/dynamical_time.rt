@@ -53,7 +53,7 @@ fn seconds<E: Enclosure>(coefficients: &[Frac], origin: i64, year: i64) -> E
     at_whole::<E>(coefficients, year - origin).mul_frac(SECOND)
 }
 
-/// The correction of a year by the form and the coefficients of a row of the table, in days.
+/// ΔT of a year by the form and the coefficients of a row of the table, in days.
 fn by_form<E: Enclosure>(form: CorrectionForm, coefficients: &[Frac], year: i64) -> E
     requires year { IsFormYear form (length coefficients.now) year }
     ensures holds { Holds E.shown (correction_by form coefficients.now year) result }
@@ -80,7 +80,7 @@ pub fn correction<E: Enclosure>(year: i64, trail: &mut Trail) -> Result<E, Fail>
     ensures void { IfErr result (λ f. f ≡ Fail.Void Site.Year) }
     ensures counted { trail.new.count ≡ trail.old.count }
 {
-    // What is claimed of a correction, its width, its bound and its milliseconds, is computed over
+    // What is claimed of ΔT, its width, its bound and its milliseconds, is computed over
     // the rows and cited for the year at hand: no proof goes over years.
     match row_of_year(year) {
         Some(row) => Ok(by_form::<E>(row.2, row.3, year)),
@@ -88,7 +88,7 @@ pub fn correction<E: Enclosure>(year: i64, trail: &mut Trail) -> Result<E, Fail>
     }
 }
 
-/// The correction of a year, which the trail keeps from then on.
+/// ΔT of a year, which the trail caches from then on.
 fn kept_correction<E: Enclosure>(year: i64, trail: &mut Trail) -> Result<E, Fail>
     ensures leads { Follows E.shown (correction_of_year year) trail.old.count trail.new.count result }
     ensures measured { Measured E.BITS E.shown (IsCorrection (2 ^ 14)) result }
@@ -100,7 +100,7 @@ fn kept_correction<E: Enclosure>(year: i64, trail: &mut Trail) -> Result<E, Fail
     Ok(days)
 }
 
-/// The correction of a year, evaluated where the trail doesn't keep it.
+/// ΔT of a year, evaluated where the trail hasn't cached it.
 fn correction_once<E: Enclosure>(year: i64, trail: &mut Trail) -> Result<E, Fail>
     ensures leads { Follows E.shown (correction_of_year year) trail.old.count trail.new.count result }
     ensures measured { Measured E.BITS E.shown (IsCorrection (greatest_of CORRECTION 0)) result }
@@ -113,8 +113,8 @@ fn correction_once<E: Enclosure>(year: i64, trail: &mut Trail) -> Result<E, Fail
     }
 }
 
-// A moment's year is tested for its correction alone.
-/// The correction of the year of a moment: one test, at `year`.
+// A moment's year is tested for its ΔT alone.
+/// ΔT of the year of a moment: one test, at `year`.
 #[tactic(auto, using(book_model::proofs::Leads::leading, crate::proofs::Years::opening), unfolding(book_model::specs::sky::Time::correction_at))]
 fn correction_of_moment<E: Enclosure>(t: E, trail: &mut Trail) -> Result<E, Fail>
     ensures leads { Follows1 E.shown correction_at t trail.old.count trail.new.count result }
@@ -128,7 +128,7 @@ fn correction_of_moment<E: Enclosure>(t: E, trail: &mut Trail) -> Result<E, Fail
     correction_once::<E>(year, trail)
 }
 
-/// The dynamical time of a moment of universal time, by the correction of that moment's year.
+/// The dynamical time of a moment of universal time, by ΔT of that moment's year.
 #[tactic(auto, using(book_model::proofs::Leads::leading, crate::proofs::Measured::measuring), unfolding(book_model::specs::sky::Time::dynamical_of))]
 pub fn dynamical<E: Enclosure>(t: E, trail: &mut Trail) -> Result<E, Fail>
     ensures leads { Follows1 E.shown dynamical_of t trail.old.count trail.new.count result }
@@ -144,7 +144,7 @@ pub fn dynamical<E: Enclosure>(t: E, trail: &mut Trail) -> Result<E, Fail>
     Ok(t.add(correction))
 }
 
-/// The universal time of a moment of dynamical time, by the correction of the year in which that moment lies.
+/// The universal time of a moment of dynamical time, by ΔT of the year in which that moment lies.
 #[tactic(auto, using(book_model::proofs::Leads::leading, crate::proofs::Measured::measuring), unfolding(book_model::specs::sky::Time::from_dynamical_of))]
 pub fn from_dynamical<E: Enclosure>(t: E, trail: &mut Trail) -> Result<E, Fail>
     ensures leads { Follows1 E.shown from_dynamical_of t trail.old.count trail.new.count result }
@@ -167,7 +167,7 @@ pub(crate) fn to_centuries<E: Enclosure>(t: E) -> E
     t.sub(E::from_frac(NOON_2000)).mul_frac(DAY_IN_CENTURIES)
 }
 
-/// The centuries of dynamical time from noon of 1 January 2000 to a moment of universal time, by the correction of
+/// The centuries of dynamical time from noon of 1 January 2000 to a moment of universal time, by ΔT of
 /// the year of universal time.
 #[tactic(auto, using(book_model::proofs::Leads::leading, crate::proofs::Measured::measuring), unfolding(book_model::specs::sky::Time::centuries_of))]
 pub fn centuries<E: Enclosure>(t: E, trail: &mut Trail) -> Result<E, Fail>

@@ -15,16 +15,16 @@ use book_model::{Fail, Site, Undecided};
 use encl_core::parts::ONE;
 use encl_core::{Enclosure, Span, Trail};
 
-/// The year of a moment that counts 2⁻⁵⁶ of a day.
+/// The year of a moment in units of 2⁻⁵⁶ of a day.
 fn year_at(moment: i128) -> i64
     ensures year { result ≡ cell_of years (units_of_56 moment) }
 {
     civil_core::year_of(moment.div_euclid(ONE))
 }
 
-// An end mostly falls on the day of the other, and what year a day has takes a division by the
+// A bound mostly falls on the day of the other, and what year a day has takes a division by the
 // 400 years of the calendar.
-/// The year of a moment that counts 2⁻⁵⁶ of a day, by another moment, whose year is known: the same, where both fall on one day.
+/// The year of a moment in units of 2⁻⁵⁶ of a day, by another moment, whose year is known: the same, where both fall on one day.
 fn year_beside(known: i128, year: i64, moment: i128) -> i64
     requires year { year ≡ cell_of years (units_of_56 known) }
     ensures year { result ≡ cell_of years (units_of_56 moment) }
@@ -35,7 +35,7 @@ fn year_beside(known: i128, year: i64, moment: i128) -> i64
     year_at(moment)
 }
 
-/// The year in which both ends fall, by the test of the run that has this number.
+/// The year in which both bounds fall, by the test of the run that has this number.
 fn year_between(span: Span, turn: u32) -> Result<i64, Fail>
     ensures decided { IfOk result (λ y. cell_at years (between (units_of_56 span.lo)
         (units_of_56 span.hi))
@@ -68,7 +68,7 @@ pub fn year_of_whole_day(day: i64, trail: &mut Trail) -> i64
     civil_core::year_of(i128::from(day))
 }
 
-/// The Gregorian year of a moment (R.D.): one test, at `year`. It is undecided exactly where the ends of the moment
+/// The Gregorian year of a moment (R.D.): one test, at `year`. It is undecided exactly where the bounds of the moment
 /// fall in different years, and where nothing is known of the moment.
 pub fn year<E: Enclosure>(t: E, trail: &mut Trail) -> Result<i64, Fail>
     ensures leads { Decides1 E.shown year_of t trail.old.count trail.new.count result }

@@ -28,7 +28,7 @@ fn hours_at<E: Enclosure>(
     match steps {
         [] => Ok(E::from_frac(last)),
         [step, later @ ..] => {
-            // One zone of five costs up to four tests, and an open one is told at `zone`.
+            // One zone of five costs up to four tests, and an undecided one is told at `zone`.
             if less_step(t, E::from_int(step.before), Site::Zone, trail)? {
                 return Ok(E::from_frac(step.hours));
             }

@@ -4,7 +4,7 @@ use Rattle.std.proofs.lemmas.Int.{ints, to_z-of_z}
 use Rattle.interval_ends.proofs.Scaling.{bounded_z}
 use Rattle.encl_core.proofs.turning.turned.Goals as goal
 
--- there is room for a phase and for a rate times an end
+-- there is room for a phase and for a rate times an endpoint
 record HasRoom (a p r : ℤ) : Type 0 where
   phase : SFits w128 (p *ℤ pos 2509978887782400)
   sum : SFits w128 (p *ℤ pos 2509978887782400 +ℤ a *ℤ r)

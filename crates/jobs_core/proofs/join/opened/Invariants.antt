@@ -5,7 +5,7 @@ use Rattle.jobs_core.specs.Pieces.{results_in}
 use Rattle.jobs_core.proofs.Joining.{IsOpened}
 use Rattle.jobs_core.proofs.join.opened.Given as goal
 
--- the pieces so far are opened, and the iterator has the others
+-- the chunks so far are opened, and the iterator has the others
 abbrev pub invariant-loop-piece : goal.invariant-loop-piece
 invariant-loop-piece g l = (goal.iterator-loop-piece g).can_next l.piece-iterator
     × (goal.iterator-loop-piece g).is_finite l.piece-iterator
