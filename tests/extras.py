@@ -266,7 +266,12 @@ def check_explained(folder):
     expect(status in (0, 2), "a text with other numbers doesn't fail otherwise")
     for other in ("", "x\n", printed.replace("islamic", "persian"), printed.rpartition("end ")[0]):
         status, out, said = extra("explain", str(given), given=other)
-        expect(status == 2 and not out and said, f"a text that isn't the input's is status 2: {status}")
+        expect(status == 2 and not out and "the file that convert read comes first" in said,
+               f"a text that isn't the input's is status 2, with the order of the files: {said}")
+    for words, piped in (((str(text), str(given)), ""), ((str(text),), given.read_text(encoding="utf-8")), ((str(text),), "")):
+        status, out, said = extra("explain", *words, given=piped)
+        expect(status == 2 and not out and "INPUT is a certificate; the file that convert read comes first" in said,
+               f"files in the other order are status 2, and that is said: {said}")
     spoiled = list(spoiled_lines())
     _, printed, _ = run(PROGRAM, "convert", given="".join(f"{line}\n" for line in spoiled))
     given.write_text("".join(f"{line}\n" for line in spoiled), encoding="utf-8")
