@@ -1,4 +1,4 @@
--- of rise_set, given on
+-- of rise_set, re-exported
 pub use Rattle.rise_set.proofs.Horizons
 pub use Rattle.rise_set.proofs.Places
 pub mod Crescents

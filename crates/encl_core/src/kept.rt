@@ -5,13 +5,13 @@ use crate::Span;
 use crate::asked::Asked;
 use std::alloc::AllocError;
 
-// The type says that what is kept is right: the program of what was asked makes so many tests,
-// decides them and ends within these ends, which are so narrow at the fine scale. So it may be taken
-// at any turn. A ghost field has to be a proposition, so that is said of runs and not by `Leads`.
+// The type says that what is cached is right: the program of what was asked makes so many tests,
+// decides them and ends within these endpoints, which are so narrow at the fine scale. So it may be
+// taken at any turn. A ghost field has to be a proposition, so that is said of runs and not by `Leads`.
 /// What was asked, as enclosures of one scale give it.
 pub struct Kept {
     asked: Asked,
-    // The scale is part of the key: fine enclosures never take coarse ends.
+    // The scale is part of the key: fine enclosures never take coarse endpoints.
     bits: u32,
     ends: Span,
     ghost evaluated: { IsKept (tests_of asked) (program_of asked) ends } by { IsKept-prop (tests_of asked) (program_of asked) ends },
@@ -33,7 +33,7 @@ impl Copy for Kept {}
 impl Kept {
     ghost use Rattle.std.specs.Prelude.{IfSome};
 
-    /// What was asked, where an enclosure at scale 2 to the power of minus `bits` gave these ends.
+    /// What was asked, where an enclosure at scale 2 to the power of minus `bits` gave these endpoints.
     pub(crate) fn new(asked: Asked, bits: u32, ends: Span) -> Self
         requires evaluated { IsKept (tests_of asked) (program_of asked) ends }
         requires measured { IsKeptWithin asked bits ends }
@@ -41,7 +41,7 @@ impl Kept {
         Kept { asked, bits, ends }
     }
 
-    /// Its ends, if this was asked at this scale.
+    /// Its endpoints, if this was asked at this scale.
     pub(crate) fn at(self, asked: Asked, bits: u32) -> Option<Span>
         ensures evaluated { IfSome result (IsKept (tests_of asked) (program_of asked)) }
         ensures measured { IfSome result (IsKeptWithin asked bits) }
@@ -52,7 +52,7 @@ impl Kept {
         None
     }
 
-    /// Its ends, if it is at this scale.
+    /// Its endpoints, if it is at this scale.
     fn at_scale(self, bits: u32) -> Option<Span>
         ensures evaluated { IfSome result (IsKept (tests_of self.asked) (program_of self.asked)) }
         ensures measured { IfSome result (IsKeptWithin self.asked bits) }

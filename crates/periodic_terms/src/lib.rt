@@ -14,9 +14,9 @@
 //!
 //! - `MeanAngles`: the mean angles and the factor;
 //! - `longitude_terms`, `latitude_terms`, `distance_terms`: the sums of the moon's terms; `new_moon_terms`: those of a new moon;
-//! - `greatest_terms`, `other_terms`: the two parts of the longitude's, of which a course keeps the other one.
+//! - `greatest_terms`, `other_terms`: the two parts of the longitude's, of which a linear model keeps the other one.
 //!
-//! The sines of `trig_series` are given on to the formulas above.
+//! The sines of `trig_series` are re-exported to the formulas above.
 //!
 //! Within, a table's row becomes `Multiples` (the trait `MultipleRow`), the mean angles become turns (`mean_turns`, `two_turns`), and
 //! `sum_of_rows` sums the rows.

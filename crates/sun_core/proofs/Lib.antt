@@ -1,4 +1,4 @@
--- of angle_search, given on
+-- of angle_search, re-exported
 pub use Rattle.angle_search.proofs.Measured as SearchMeasured
 pub use Rattle.angle_search.proofs.Passed
 pub mod OnCourse
