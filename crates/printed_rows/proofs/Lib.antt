@@ -7,3 +7,4 @@ pub mod PrintedLemmas
 pub mod EchoLemmas
 pub mod RenewLemmas
 pub mod SpacedLines
+pub mod AnsweredLemmas

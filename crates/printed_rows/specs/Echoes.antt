@@ -1,5 +1,5 @@
 -- The lines whose words a text echoes, and what may stand for a line.
-use Rattle.std.specs.Prelude.{◌≡◌, ℕ, List, [], length, map, slice_index_or}
+use Rattle.std.specs.Prelude.{◌≡◌, ℕ, List, [], ◌∷◌, length, map, slice_index_or}
 use Rattle.book_model.specs.lines.Lines.{words_of}
 use Rattle.book_model.specs.lines.Outcomes.{LineOutcome, refused, resolved, undecided, void}
 use Rattle.book_model.specs.lines.Text.{three_words_text}
@@ -27,6 +27,7 @@ words_in (line.Void fact site) = []
 abbrev pub echoed_lines : Echoes → List (List ℕ)
 echoed_lines (echoes.Rows rows) = lines_in rows.now
 echoed_lines (echoes.Printed lines) = map words_in lines.now
+echoed_lines (echoes.Alone line) = line.now ∷ []
 
 -- the line at a place
 abbrev pub echoed_at : Echoes → ℕ → List ℕ
@@ -36,6 +37,7 @@ echoed_at from index = slice_index_or (echoed_lines from) index []
 abbrev pub CanEcho : Echoes → Type 0
 CanEcho (echoes.Rows rows) = AreSpelledRows rows.now
 CanEcho (echoes.Printed lines) = Unit {0}
+CanEcho (echoes.Alone line) = Unit {0}
 
 -- a result may stand for a line of three words, which it echoes, and anything else for any line
 abbrev pub MayStand : List ℕ → LineOutcome → Type 0

@@ -5,18 +5,20 @@ ghost use Rattle.book_model.specs.lines.Text.{echo_text};
 ghost use Rattle.byte_streams.specs.Stream.{Writes};
 ghost use Rattle.printed_rows.specs.Echoes as spec;
 
-use crate::rows::{Rows, write_three};
+use crate::rows::{Rows, write_own_words, write_three};
 use byte_streams::{Failed, Sink};
 use cert_text::{CertLine, Echo};
 use line_core::ThreeWords;
 
 // Apart from what is computed: a line of a certificate may have no words, and so ask nothing, and yet stands
 // in the text.
-/// Where the words of the lines of a text lie: in the rows that it is of, or in a certificate. Contracts see them as lines.
+/// Where the words of the lines of a text lie: in the rows that it is of, in a certificate, or in a line that stands by itself.
+/// Contracts see them as lines.
 #[derive(Clone, Copy)]
 pub enum Echoes<'a> {
     Rows(&'a Rows<'a>),
     Printed(&'a [CertLine]),
+    Alone(&'a [u8]),
 }
 
 /// The three words of an echo.
@@ -90,6 +92,7 @@ impl Echoes<'_> {
         match self {
             Echoes::Rows(rows) => rows.write_echo(sink, number, index),
             Echoes::Printed(lines) => write_echo_at(sink, number, lines, index),
+            Echoes::Alone(line) => write_own_words(sink, number, line),
         }
     }
 }

@@ -105,7 +105,7 @@ fn write_any_words<K: Sink>(sink: &mut K, number: u32, line: &[u8]) -> Result<()
 // Words are cut where a line is read and again here: less than a thousandth of a line that asks a
 // fact.
 /// Writes the number of a line of the input and its three words, as they stand there.
-fn write_own_words<K: Sink>(sink: &mut K, number: u32, line: &[u8]) -> Result<(), Failed>
+pub(crate) fn write_own_words<K: Sink>(sink: &mut K, number: u32, line: &[u8]) -> Result<(), Failed>
     requires three { length (words_of line.now) ≡ 3 }
     ensures { Writes K.written K.faults sink.old sink.new
         (echo_text number (words_of line.now)) result }
