@@ -75,7 +75,7 @@ renewing judge input h = absurd h
 renewing renew input h = refl
 
 -- work on a file that a fault ended was cut off
-fault_ended : (cut : Type 0) (r : Result Checked WriteStop) → check_ended r ≡ WriteFault → (IsErrOf r stop.Fault → cut) → cut
+pub fault_ended : (cut : Type 0) (r : Result Checked WriteStop) → check_ended r ≡ WriteFault → (IsErrOf r stop.Fault → cut) → cut
 fault_ended cut (Ok checked.AllYes) e h = absurd (cc)
 fault_ended cut (Ok checked.NotAll) e h = absurd (cc)
 fault_ended cut (Ok checked.BadText) e h = absurd (cc)
@@ -83,7 +83,7 @@ fault_ended cut (Err stop.Fault) e h = h refl
 fault_ended cut (Err stop.Memory) e h = absurd (cc)
 
 -- that which ended out of memory was too, or it wrote nothing
-memory_ended : (cut : Type 0) (r : Result Checked WriteStop) → check_ended r ≡ Memory → (IsErrOf r stop.Memory → cut) → cut
+pub memory_ended : (cut : Type 0) (r : Result Checked WriteStop) → check_ended r ≡ Memory → (IsErrOf r stop.Memory → cut) → cut
 memory_ended cut (Ok checked.AllYes) e h = absurd (cc)
 memory_ended cut (Ok checked.NotAll) e h = absurd (cc)
 memory_ended cut (Ok checked.BadText) e h = absurd (cc)

@@ -136,3 +136,14 @@ IsOfWork WriteFault = Unit {0}
 IsOfWork Memory = Unit {0}
 IsOfWork TooLarge = ⊥
 IsOfWork BadText = Unit {0}
+
+-- a status that comes of bytes that are checked in memory
+abbrev pub IsOfCheck : Status → Type 0
+IsOfCheck Done = Unit {0}
+IsOfCheck Mixed = Unit {0}
+IsOfCheck Words = ⊥
+IsOfCheck ReadFault = ⊥
+IsOfCheck WriteFault = Unit {0}
+IsOfCheck Memory = Unit {0}
+IsOfCheck TooLarge = Unit {0}
+IsOfCheck BadText = Unit {0}

@@ -161,7 +161,7 @@ fn put_counts<K: Sink>(
 // times as much as the file.
 /// Writes the verdicts of the lines of a file, numbered from 1, and how many there are of each kind, and says whether all are
 /// yes. At an error a prefix of the text was written.
-fn write_verdicts<K: Sink>(
+pub(crate) fn write_verdicts<K: Sink>(
     alloc: Global,
     sink: &mut K,
     file: &CertFile,

@@ -6,6 +6,7 @@
 #![tactic(auto)]
 
 mod check;
+mod in_memory;
 pub mod laws;
 mod limits;
 mod program;
@@ -15,8 +16,9 @@ mod work;
 
 pub use byte_streams::{Failed, MemorySink, MemorySource, Sink, Source, StdSink, StdSource};
 pub use command_words::Command;
+pub use in_memory::check_bytes;
 pub use jobs_core::{Gate, OpenGate, Outcome};
 pub use limits::input_limit;
-pub use printed_rows::{WriteStop, write_text};
+pub use printed_rows::{WriteStop, answer_briefly, answer_line, write_text};
 pub use program::{USAGE, run};
 pub use status::Status;

@@ -65,7 +65,7 @@ fn read_input<S: Source>(
 
 /// How work on a certificate ends: with each verdict yes or each line a result, or not, with bytes that aren't such a file, or
 /// where it stopped.
-fn status_of_check(checked: Result<Checked, WriteStop>) -> Status
+pub(crate) fn status_of_check(checked: Result<Checked, WriteStop>) -> Status
     ensures status { result ≡ check_ended checked }
 {
     match checked {
