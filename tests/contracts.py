@@ -96,6 +96,8 @@ class Reader:
                 self.bracket()
         if self.word() == "const" and self.tokens[self.at + 1][0] == "fn":
             self.at += 1
+        if self.word() == "extern":
+            self.until("fn")
         kind, begin = self.word(), self.at
         if kind == "fn":
             self.function(owner, trait, shown, docs)
