@@ -42,7 +42,7 @@ _calendrica() {
         COMPREPLY=()
         [[ $has_jobs ]] || _calendrica_offer "--jobs${is_script:+ --help --version}" "$typed"
     elif ((place == 0)); then
-        _calendrica_offer "$commands${is_script:+ build try help}" "$typed"
+        _calendrica_offer "$commands${is_script:+ build try install help}" "$typed"
     elif ((place == 1)) && [[ $command == almanac || $command == east ]]; then
         _calendrica_offer "$(echo {1703..2147})" "$typed"
     else

@@ -1,6 +1,6 @@
 /* Calendrica 1.0.0: dates of calendars that follow the sky, each with the facts on which it rests.
  *
- * Lines and texts are those of the program: docs/FORMAT.md says them to the byte. What each call writes is proved, as far as the
+ * Lines and certificates are those of the program: docs/FORMAT.md says them to the byte. What each call writes is proved, as far as the
  * caller keeps what stands here:
  *
  * - An evaluator is a variable of the caller's, CALENDRICA_NONE at first. `calendrica_open` fills it; then the other calls take it,
@@ -33,9 +33,9 @@ extern "C" {
 enum calendrica_status {
     CALENDRICA_DONE = 0,      /* the line has a result; each verdict is yes */
     CALENDRICA_MIXED = 1,     /* the line has none, and the text says why; some verdict is no or skip */
-    CALENDRICA_MEMORY = 5,    /* no memory was found; nothing is handed over, and the length is 0 */
-    CALENDRICA_TOO_LARGE = 6, /* the text to check has more than 268,435,456 bytes; nothing is handed over, and the length is 0 */
-    CALENDRICA_BAD_TEXT = 7,  /* the text to check isn't in the grammar; `bad LINE RULE` is handed over */
+    CALENDRICA_MEMORY = 5,    /* out of memory; nothing is handed over, and the length is 0 */
+    CALENDRICA_TOO_LARGE = 6, /* the bytes to check are more than 268,435,456; nothing is handed over, and the length is 0 */
+    CALENDRICA_BAD_TEXT = 7,  /* the bytes to check are no certificate; `bad LINE RULE` is handed over */
     CALENDRICA_NO_ROOM = 9    /* the room is too small and as it was; the length is what is needed */
 };
 
@@ -55,19 +55,19 @@ void calendrica_close(calendrica_evaluator *evaluator);
 /* Answers a line FROM DATE TO, without a line feed at its end, by its block: the facts that it lists, numbered from 1, and then
  * `line 1 ..`, each ended by a line feed, as the program writes them for this line alone between its header and its end line. A
  * line of more than 200 bytes, or with other bytes than a tab and 0x20 to 0x7E, is refused by rule 1, as `line 1 refused 1`. The
- * text goes to the front of `room`, without a 0 behind it, and its length to `length`. Ends with CALENDRICA_DONE,
+ * text goes to the beginning of `room`, without a 0 behind it, and its length to `length`. Ends with CALENDRICA_DONE,
  * CALENDRICA_MIXED, CALENDRICA_NO_ROOM or CALENDRICA_MEMORY. */
 int calendrica_answer(calendrica_evaluator *evaluator, const char *line, size_t line_length, char *room, size_t room_length,
                       size_t *length);
 
-/* The same by what the line comes to alone, without a line feed: its result, as `78-44-1-0-1`, with CALENDRICA_DONE; with
- * CALENDRICA_MIXED `refused R`, `refused 4 DAY`, `refused 5 BACK`, `undecided` or `void`. No text has more than 64 bytes. */
+/* The same by the result of the line alone, without a line feed, as `78-44-1-0-1`, with CALENDRICA_DONE; with CALENDRICA_MIXED
+ * why it has none, `refused R`, `refused 4 DAY`, `refused 5 BACK`, `undecided` or `void`. No text has more than 64 bytes. */
 int calendrica_result(calendrica_evaluator *evaluator, const char *line, size_t line_length, char *room, size_t room_length,
                       size_t *length);
 
-/* Checks a printed file, whoever made it, as `calendrica check` does: hands over a verdict for each of its lines and their counts,
- * with CALENDRICA_DONE where each is yes, and else CALENDRICA_MIXED; or why it is none, with CALENDRICA_BAD_TEXT. Ends with these,
- * CALENDRICA_TOO_LARGE, CALENDRICA_NO_ROOM or CALENDRICA_MEMORY. */
+/* Checks a certificate, whoever made it, as `calendrica check` does: hands over a verdict for each of its lines and their counts,
+ * with CALENDRICA_DONE where each is yes, and else CALENDRICA_MIXED; or why the bytes are none, with CALENDRICA_BAD_TEXT. Ends with
+ * these, CALENDRICA_TOO_LARGE, CALENDRICA_NO_ROOM or CALENDRICA_MEMORY. */
 int calendrica_check(calendrica_evaluator *evaluator, const char *text, size_t text_length, char *room, size_t room_length,
                      size_t *length);
 

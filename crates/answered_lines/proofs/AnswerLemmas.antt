@@ -1,4 +1,4 @@
--- Answers to lines, and then to more: all of them, or a front of the answers to the first.
+-- Answers to lines, and then to more: all of them, or a prefix of the answers to the first.
 use Rattle.std.proofs.Common.{◌≡◌, ◌∙◌, sym, ap, refl, ℕ, zero, suc, ◌+◌, ◌≤◌, ◌⊎◌, inl, inr, Bool, List, [], ◌∷◌, ◌++◌, length, take, append_assoc, append-nil, length-append, zero-add, arith}
 use Rattle.std.proofs.lemmas.List.{take-append-le}
 use Rattle.std.specs.Prelude.{Err}
@@ -46,7 +46,7 @@ take_past : (ls ms : List (List ℕ)) (n : ℕ) → take (length ls + n) (ls ++ 
 take_past [] ms n = rw (zero-add n) refl
 take_past (l ∷ ls) ms n = let one : length (l ∷ ls) + n ≡ suc (length ls + n) = omega arith in rw one (ap (λ t. l ∷ t) (take_past ls ms n))
 
--- lines are answered, and then a front of more is written
+-- lines are answered, and then a prefix of more is written
 pub cut_on : (a b c : Option (List ℕ)) (ls ms : List (List ℕ)) → AnswersAll a b ls → AnswersCut b c ms → AnswersCut a c (ls ++ ms)
 cut_on a b c ls ms h k = record {
   count = length ls + k.count;
@@ -57,7 +57,7 @@ cut_on a b c ls ms h k = record {
       (front_second a b c (answers_text ls h.outcomes) (answers_text (take k.count ms) k.outcomes) h.written k.front);
 }
 
--- a front of the answers to some of the lines
+-- a prefix of the answers to some of the lines
 pub cut_first : (a b : Option (List ℕ)) (ls ms : List (List ℕ)) → AnswersCut a b ls → AnswersCut a b (ls ++ ms)
 cut_first a b ls ms h =
     let same : take h.count (ls ++ ms) ≡ take h.count ls = take-append-le h.count ls ms h.within in
@@ -69,7 +69,7 @@ cut_first a b ls ms h =
       front = rw same h.front;
     }
 
--- nothing is written, which is a front of any answers
+-- nothing is written, which is a prefix of any answers
 pub cut_kept : (a b : Option (List ℕ)) (ls : List (List ℕ)) → Keeps a b → AnswersCut a b ls
 cut_kept a b ls h = record {
   count = 0;
@@ -94,7 +94,7 @@ one_answered a b l is h = record {
   written = rw (append-nil (answer_text l h.outcome)) h.written;
 }
 
--- a front of the answer to one line is written
+-- a prefix of the answer to one line is written
 pub one_cut : (a b : Option (List ℕ)) (l : List ℕ) → AnswerCutShort (answer_text l) a b l → AnswersCut a b (l ∷ [])
 one_cut a b l h = record {
   count = 1;
@@ -108,7 +108,7 @@ pub one_stopped : (a b : Option (List ℕ)) (l : List ℕ) → Keeps a b ⊎ Ans
 one_stopped a b l (inl kept) = cut_kept a b (l ∷ []) kept
 one_stopped a b l (inr cut) = one_cut a b l cut
 
--- a call that has stopped wrote nothing, or a front of its text
+-- a call that has stopped wrote nothing, or a prefix of its text
 pub stop_left : {S T : Type 0} {written : S → Option (List ℕ)} {faults : S → ℕ} {old new : S} {finished : T → Type 0} {cut : Type 0} (why : WriteStop)
     → Performs written faults old new finished cut (Err why) → Keeps (written old) (written new) ⊎ cut
 stop_left stop.Fault h = inr (h.fault refl)

@@ -1,4 +1,4 @@
--- A line of which only a front is kept. A front of 202 bytes is refused by the first rule, as the line is; so the answer to what is kept of
+-- A line of which only a prefix is kept. A prefix of 202 bytes is refused by the first rule, as the line is; so the answer to what is kept of
 -- a line is the answer to the line.
 use Rattle.std.proofs.Common.{◌≡◌, ◌∙◌, sym, ap, refl, ℕ, ◌+◌, ◌-◌, ◌<◌, ◌≤◌, ◌==◌, Bool, true, false, List, [], ◌∷◌, ◌++◌, length, map, take, arith}
 use Rattle.std.proofs.lemmas.Bool.Decides.{nat_tests}
@@ -36,7 +36,7 @@ long_right line o h right = rw (long_refused line h) at right
 right_long : (line : List ℕ) (o : LineOutcome) → 200 < length line → o ≡ refused Syntax → IsRightFor WRITTEN line o
 right_long line o h is = rw (long_refused line h) is
 
--- the answer to the front of a line is the answer to the line
+-- the answer to the prefix of a line is the answer to the line
 record IsAnswerOf (line kept : List ℕ) (o : LineOutcome) : Type 0 where
   right : IsRightFor WRITTEN line o
   text : answer_text line o ≡ answer_text kept o

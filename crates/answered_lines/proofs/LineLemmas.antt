@@ -1,5 +1,5 @@
 -- Lines as they come. The lines that end in bytes, and the one that has begun, are told byte by byte; what is kept of them is told in the
--- same way. Both are carried on over more bytes, and at the end of an input they are its lines, and the fronts of these.
+-- same way. Both are carried on over more bytes, and at the end of an input they are its lines, and the prefixes of these.
 use Rattle.std.proofs.Common.{◌≡◌, ◌∙◌, sym, ap, refl, ℕ, ◌+◌, ◌<◌, ◌≤◌, ◌==◌, Bool, true, false, List, [], ◌∷◌, ◌++◌, length, map, take, append_assoc, append-nil, length-append, arith}
 use Rattle.std.proofs.lemmas.List.{length-take, map-append, take_all, take-append-le}
 use Rattle.std.specs.Prelude.{if◌then◌else◌, nat_lt}
@@ -75,8 +75,8 @@ pub raw_split : (input : List ℕ) → raw_lines input ≡ ended_lines [] input 
 unfolding HasNoFeed
 raw_split input = raw-ended [] input tt
 
--- ---- what is kept is the front of each
--- the front of bytes, with a byte more where it is short, is the front of them and the byte
+-- ---- what is kept is a prefix of each
+-- the prefix of bytes, with a byte more where it is short, is the prefix of them and the byte
 front_on : (n : ℕ) (bytes : List ℕ) (b : ℕ) → (if nat_lt (length (take n bytes)) n then take n bytes ++ b ∷ [] else take n bytes) ≡ take n (bytes ++ b ∷ [])
 front_on n bytes b = by (nat_lt (length (take n bytes)) n) refl
   where

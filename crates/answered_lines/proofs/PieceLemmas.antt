@@ -27,14 +27,14 @@ bytes_on a b c kept now xs ys is h k =
     rw (plain_kept-append kept xs ys)
     (all_on a b c (plain_lines (kept_lines kept xs)) (plain_lines (kept_lines (kept_front kept xs) ys)) h (rw is at k))
 
--- or a front of their answers is written
+-- or a prefix of their answers is written
 pub bytes_cut : (a b c : Option (List ℕ)) (kept now xs ys : List ℕ) → now ≡ kept_front kept xs → AnswersAll a b (plain_lines (kept_lines kept xs))
     → AnswersCut b c (plain_lines (kept_lines now ys)) → AnswersCut a c (plain_lines (kept_lines kept (xs ++ ys)))
 bytes_cut a b c kept now xs ys is h k =
     rw (plain_kept-append kept xs ys)
     (cut_on a b c (plain_lines (kept_lines kept xs)) (plain_lines (kept_lines (kept_front kept xs) ys)) h (rw is at k))
 
--- a front of the answers to what ends in bytes is one of what ends in these and more
+-- a prefix of the answers to what ends in bytes is one of what ends in these and more
 pub bytes_first : (a b : Option (List ℕ)) (kept xs ys : List ℕ) → AnswersCut a b (plain_lines (kept_lines kept xs))
     → AnswersCut a b (plain_lines (kept_lines kept (xs ++ ys)))
 bytes_first a b kept xs ys h =

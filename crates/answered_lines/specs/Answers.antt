@@ -24,7 +24,7 @@ pub record AnswersAll (old new : Option (List ℕ)) (lines : List (List ℕ)) : 
   pub right : AreRight WRITTEN lines outcomes
   pub written : Appends old new (answers_text lines outcomes)
 
--- a front of the answers to the first of the lines stands there
+-- a prefix of the answers to the first of the lines stands there
 pub record AnswersCut (old new : Option (List ℕ)) (lines : List (List ℕ)) : Type 0 where
   pub count : ℕ
   pub within : count ≤ length lines
@@ -45,7 +45,7 @@ pub record AnswersEnded (left now old new : Option (List ℕ)) : Type 0 where
   pub read : Consumes left now input
   pub answered : AnswersAll old new (plain_lines (ended_lines [] input))
 
--- some bytes of the source were read, and a front of the answers to the first of their lines stands there
+-- some bytes of the source were read, and a prefix of the answers to the first of their lines stands there
 pub record InputCut (left now old new : Option (List ℕ)) : Type 0 where
   pub input : List ℕ
   pub read : Consumes left now input

@@ -27,7 +27,7 @@ abbrev pub last_line : List ℕ → List (List ℕ)
 last_line [] = []
 last_line (b ∷ bs) = (b ∷ bs) ∷ []
 
--- the front of a line that is kept, with a byte more, where that may still tell what the line asks
+-- the prefix of a line that is kept, with a byte more, where that may still tell what the line asks
 abbrev pub with_byte : List ℕ → ℕ → List ℕ
 with_byte kept b = if nat_lt (length kept) FRONT then kept ++ b ∷ [] else kept
 

@@ -56,7 +56,7 @@ impl<E: Evaluator> Answerer<E> {
 
     /// Writes what stands for a line by itself: the facts that it lists, numbered from 1, and then the line, of the number 1; and
     /// says whether it has a result. The line is taken as it is, without a line feed or a carriage return at its end. At a fault of
-    /// the sink, and where memory runs out, a front of the text was written, or nothing.
+    /// the sink, and where memory runs out, a prefix of the text was written, or nothing.
     pub fn answer<K: Sink>(&mut self, sink: &mut K, line: &[u8]) -> Result<bool, WriteStop>
         ensures performs { spec.Performs K.written K.faults sink.old sink.new
             (spec.Answered (spec.answer_text line.now) (K.written sink.old) (K.written sink.new)
@@ -68,9 +68,9 @@ impl<E: Evaluator> Answerer<E> {
         answer_line(self.alloc, sink, &*self, line)
     }
 
-    /// Writes what a line comes to and nothing else: its result, as `78-44-1-0-1`; `refused R`, `refused 4 DAY` or `refused 5 BACK`;
-    /// `undecided` or `void`; and says whether it has a result. The line is taken as it is. At a fault of the sink, and where
-    /// memory runs out, a front of the text was written, or nothing.
+    /// Writes the result of a line and nothing else, as `78-44-1-0-1`, or why it has none: `refused R`, `refused 4 DAY`,
+    /// `refused 5 BACK`, `undecided` or `void`; and says whether it has a result. The line is taken as it is. At a fault of the sink, and where
+    /// memory runs out, a prefix of the text was written, or nothing.
     pub fn answer_briefly<K: Sink>(&mut self, sink: &mut K, line: &[u8]) -> Result<bool, WriteStop>
         ensures performs { spec.Performs K.written K.faults sink.old sink.new
             (spec.Answered spec.brief_text (K.written sink.old) (K.written sink.new) line.now)
@@ -81,7 +81,7 @@ impl<E: Evaluator> Answerer<E> {
         answer_briefly(self.alloc, sink, &*self, line)
     }
 
-    /// Checks bytes, whoever made them: writes the verdicts of the lines of a printed file, or the line that says why they are none.
+    /// Checks a certificate, whoever made it: writes the verdicts of its lines, or the line that says why the bytes are none.
     /// `Done` says that each verdict is yes, `Mixed` that one isn't, `BadText` that the bytes aren't in the grammar, `TooLarge` that
     /// they are more than 268,435,456, `WriteFault` and `Memory` that a write failed or memory ran out.
     pub fn check<K: Sink>(&mut self, sink: &mut K, input: &[u8]) -> Status

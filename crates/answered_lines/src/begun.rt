@@ -9,7 +9,7 @@ use std::marker::Model;
 /// more it is refused, whatever else it has.
 pub const FRONT: usize = 202;
 
-/// The front of a line that has begun, as far as it can tell what the line asks. Contracts see its bytes.
+/// The prefix that is kept of a line that has begun, as far as it can tell what the line asks. Contracts see its bytes.
 #[derive(Drop)]
 pub struct BegunLine {
     bytes: Vec<u8>,

@@ -53,9 +53,9 @@ fn answer_byte<K: Sink, E: Evaluator>(
 }
 
 // Byte by byte, and not by a search for line feeds: a line has some thirty bytes, and takes some twenty microseconds.
-/// Takes bytes as they come, in any pieces: answers each line that ends in them, in order, each by a write of its own, and keeps the
-/// front of the line that has begun. On `Ok` each line that has come whole is answered. At a fault of the sink, and where memory
-/// runs out, a front of these answers was written.
+/// Takes bytes as they come, in any pieces: answers each line that ends in them, in order, each by a write of its own, and keeps a
+/// prefix of the line that has begun. On `Ok` each line that has come whole is answered. At a fault of the sink, and where memory
+/// runs out, a prefix of these answers was written.
 pub fn answer_piece<K: Sink, E: Evaluator>(
     answerer: &mut Answerer<E>,
     sink: &mut K,
@@ -133,7 +133,7 @@ fn end_lines<K: Sink, E: Evaluator>(
 ///
 /// `Done` says that the source has ended and each line is answered; `ReadFault` that a read failed, and each line that had ended is
 /// answered: since any read may be the one that fails, no read is made while such a line waits; `WriteFault` that a write failed,
-/// and `Memory` that memory ran out, or that the source was read 2⁶⁴ times. What was written then is a front of the answers.
+/// and `Memory` that memory ran out, or that the source was read 2⁶⁴ times. What was written then is a prefix of the answers.
 pub fn answer_lines<S: Source, K: Sink, E: Evaluator>(
     alloc: Global,
     answerer: &mut Answerer<E>,

@@ -18,11 +18,11 @@ HandsAnswer text_of line old new told TooLarge = ⊥
 HandsAnswer text_of line old new told BadText = ⊥
 HandsAnswer text_of line old new told NoRoom = (is : Bool) × HandsNone (IsAnswer text_of line is) old new told
 
--- the verdicts of the lines of a printed file, all of them yes or not
+-- the verdicts of the lines of a certificate, all of them yes or not
 abbrev pub AreVerdicts : List ℕ → Bool → List ℕ → Type 0
 AreVerdicts input all text = ChecksText (Some []) (Some text) input all
 
--- why the bytes are no printed file
+-- why the bytes are no certificate
 abbrev pub IsRefusal : List ℕ → List ℕ → Type 0
 IsRefusal input text = RefusesText (grammar_of input) (Some []) (Some text)
 

@@ -17,7 +17,7 @@ abbrev pub handed_of : Bool → Handed
 handed_of true = Done
 handed_of false = Mixed
 
--- the text stands at the front of the room, what is behind it is as it was, and its length is told
+-- the text stands at the beginning of the room, what is behind it is as it was, and its length is told
 pub record Filled (old new : List ℕ) (told : ℕ) (text : List ℕ) : Type 0 where
   pub told_is : told ≡ length text
   pub fits : length text ≤ length old

@@ -79,7 +79,7 @@ pub extern "C" fn calendrica_answer(
     handed.number()
 }
 
-/// `calendrica_result` of the header: hands over what a line comes to alone, by an outcome that is right for the line.
+/// `calendrica_result` of the header: hands over the result of a line alone, or why it has none, by an outcome that is right for it.
 #[unsafe(no_mangle)]
 pub extern "C" fn calendrica_result(
     alloc: Global,
@@ -99,7 +99,7 @@ pub extern "C" fn calendrica_result(
     handed.number()
 }
 
-/// `calendrica_check` of the header: checks a printed file, and hands over the verdicts of its lines, or why it is none.
+/// `calendrica_check` of the header: checks a certificate, and hands over the verdicts of its lines, or why the bytes are none.
 #[unsafe(no_mangle)]
 pub extern "C" fn calendrica_check(
     alloc: Global,

@@ -2,8 +2,8 @@
 ghost use Rattle.std.specs.Prelude.{◌≡◌, IsTrue, true, false, length};
 ghost use Rattle.calendrica_c.specs.Rooms as spec;
 
-/// How a call ends: its text is handed over, of a line with a result or a file with a yes for each line, or of another; memory ran
-/// out; the file is too large, or its bytes aren't in the grammar, and the text says why; or the room is too small for the text.
+/// How a call ends: its text is handed over, of a line with a result or a certificate with a yes for each line, or of another; memory
+/// ran out; the bytes to check are too many, or aren't in the grammar, and the text says why; or the room is too small for the text.
 #[derive(Clone, Copy, Debug, PartialEq, Eq)]
 pub(crate) enum Handed {
     Done,
@@ -41,7 +41,7 @@ impl Handed {
     }
 }
 
-/// Tells the length of a text, and puts it at the front of the room, where that is large enough. Says whether it is.
+/// Tells the length of a text, and puts it at the beginning of the room, where that is large enough. Says whether it is.
 pub(crate) fn hand_over(text: &[u8], room: &mut [u8], told: &mut usize) -> bool
     ensures fits { result ≡ true → spec.Filled room.old room.new told.new text.now }
     ensures small { result ≡ false → spec.TooSmall room.old room.new told.new text.now }

@@ -60,7 +60,7 @@ impl Kept {
         }
     }
 
-    /// Hands over what a line comes to alone.
+    /// Hands over the result of a line alone, or why it has none.
     pub(crate) fn answer_briefly(
         &mut self,
         alloc: Global,
@@ -78,7 +78,7 @@ impl Kept {
         }
     }
 
-    /// Checks a printed file, and hands over the verdicts of its lines, or why it is none.
+    /// Checks a certificate, and hands over the verdicts of its lines, or why the bytes are none.
     pub(crate) fn check(
         &mut self,
         alloc: Global,

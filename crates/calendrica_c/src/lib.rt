@@ -1,6 +1,6 @@
 //! The library for C, and for every language that calls C: an evaluator that the caller makes, keeps and gives up, and calls that
-//! answer a line by its block of text (`calendrica_answer`), give what it comes to alone (`calendrica_result`), and check a printed
-//! file in memory (`calendrica_check`). `include/calendrica.h` declares them, and says what the caller owes.
+//! answer a line by its block of text (`calendrica_answer`), give its result alone (`calendrica_result`), and check a certificate in
+//! memory (`calendrica_check`). `include/calendrica.h` declares them, and says what the caller owes.
 //!
 //! Each call is one of `answered_lines`, whose text is gathered and then handed over in room that the caller gives. No thread is
 //! started.

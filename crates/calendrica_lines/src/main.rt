@@ -1,5 +1,5 @@
 //! The program that answers each line of its standard input as soon as it has come, and writes the answer to standard output. It
-//! ends with the number of the status. It takes no words, and looks at none.
+//! ends with the number of the status. It takes no arguments, and looks at none.
 #![tactic(auto)]
 
 #[cfg(test)]

@@ -31,7 +31,7 @@ static ROWS: [Row; 14] = [
     ("fixed 738926 dt\nfixed 738926 dt", 2, 999, Status::ReadFault, &[DT]),
     ("fixed 738926 dt\nfixed 738926 dt\n", 2, 999, Status::ReadFault, &[DT, DT]),
     ("fixed 738926 dt\nfixed 738926 dt\n", 3, 999, Status::Done, &[DT, DT]),
-    // A front of the answers.
+    // A prefix of the answers.
     ("fixed 738926 dt\nx\n", 0, 0, Status::WriteFault, &[DT, LONG]),
     ("fixed 738926 dt\nx\n", 0, 61, Status::WriteFault, &[DT, LONG]),
     ("fixed 738926 dt\nx\n", 0, 62, Status::WriteFault, &[DT, LONG]),

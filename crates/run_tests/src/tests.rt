@@ -6,6 +6,7 @@ mod faults;
 mod jobs;
 mod limits;
 mod little;
+mod new_year;
 mod upgrades;
 
 use fact_eval::Staged;
