@@ -12,7 +12,7 @@ pub answered : (text_of : LineOutcome → List ℕ) (old new : Option (List ℕ)
     → Appends old new (text_of o) → is ≡ is_result o → Answered text_of old new line is
 answered text_of old new line o is right written result = record { outcome = o; right = right; written = written; result = result }
 
--- a line, an outcome that is right for it, and a front of its text
+-- a line, an outcome that is right for it, and a prefix of its text
 pub answer_cut : (text_of : LineOutcome → List ℕ) (old new : Option (List ℕ)) (line : List ℕ) (o : LineOutcome) → IsRightFor WRITTEN line o
     → AppendsFront old new (text_of o) → AnswerCutShort text_of old new line
 answer_cut text_of old new line o right front = record { outcome = o; right = right; front = front }

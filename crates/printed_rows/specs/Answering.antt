@@ -12,7 +12,7 @@ use Rattle.byte_streams.specs.Stream.{AppendsFront}
 abbrev pub answer_text : List ℕ → LineOutcome → List ℕ
 answer_text line o = block_text [] 1 line o
 
--- what a line comes to, in a few words: its result, or `refused` with the rule and the day or date that says why, `undecided` or `void`
+-- the outcome of a line in a few words: its result, or `refused` with the rule and the day or date that says why, `undecided` or `void`
 abbrev pub brief_text : LineOutcome → List ℕ
 brief_text (refused rule) = codes "refused " ++ decimal (rule_number rule)
 brief_text (resolved x facts) = result_text x
@@ -26,7 +26,7 @@ pub record Answered (text_of : LineOutcome → List ℕ) (old new : Option (List
   pub written : Appends old new (text_of outcome)
   pub result : has_result ≡ is_result outcome
 
--- a front of such a text stands there
+-- a prefix of such a text stands there
 pub record AnswerCutShort (text_of : LineOutcome → List ℕ) (old new : Option (List ℕ)) (line : List ℕ) : Type 0 where
   pub outcome : LineOutcome
   pub right : IsRightFor WRITTEN line outcome

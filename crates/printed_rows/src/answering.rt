@@ -1,4 +1,4 @@
-//! A line by itself: what it comes to, and the text that stands for it where no other line stands before it.
+//! A line by itself: its result, and the text that stands for it where no other line stands before it.
 ghost use Rattle.std.specs.Prelude.{◌≡◌, ◌≤◌, ◌++◌, [], codes, decimal as digits, IfOk, OnOk, IsErrOf};
 ghost use Rattle.book_model.specs.declared.version.TheConstants.{WRITTEN};
 ghost use Rattle.book_model.specs.lines.Outcomes.{IsRightFor};
@@ -24,7 +24,7 @@ use oracle_core::Evaluator;
 use std::alloc::{AllocError, Global};
 use std::slice::from_ref;
 
-/// What comes of a line, by the answers of the evaluator for the facts that it asks. The error comes where memory runs out.
+/// The outcome of a line, by the answers of the evaluator for the facts that it asks. The error comes where memory runs out.
 fn outcome_of_line<E: Evaluator>(
     alloc: Global,
     evaluator: &E,
@@ -61,7 +61,7 @@ fn write_alone<K: Sink>(
 
 /// Computes a line and writes what stands for it by itself: the facts that it lists, numbered from 1, and then the line, of the
 /// number 1, as a text of this line alone has them between its header and its end line; and says whether it has a result. The
-/// line is taken as it is, without a line feed or a carriage return at its end. Where memory runs out a front of the text was
+/// line is taken as it is, without a line feed or a carriage return at its end. Where memory runs out a prefix of the text was
 /// written, or nothing.
 pub fn answer_line<K: Sink, E: Evaluator>(
     alloc: Global,
@@ -100,7 +100,7 @@ fn halt_word(halt: &Halt) -> &'static [u8]
     }
 }
 
-/// Writes what a line comes to in a word or a few.
+/// Writes the result of a line, or the words for an outcome without one.
 fn write_brief<K: Sink>(sink: &mut K, outcome: &Outcome) -> Result<(), Failed>
     ensures { Writes K.written K.faults sink.old sink.new
         (spec.brief_text (line_outcome outcome.now)) result }
@@ -113,8 +113,8 @@ fn write_brief<K: Sink>(sink: &mut K, outcome: &Outcome) -> Result<(), Failed>
     }
 }
 
-/// Computes a line and writes what it comes to, without its facts, its words and a line feed: its result, or `refused` with the
-/// rule and the day or date that says why, `undecided` or `void`; and says whether it has a result. The line is taken as it is.
+/// Computes a line and writes its result alone, without its facts, its words and a line feed, or `refused` with the rule and the
+/// day or date that says why, `undecided` or `void`; and says whether it has a result. The line is taken as it is.
 /// Where memory runs out nothing was written.
 pub fn answer_briefly<K: Sink, E: Evaluator>(
     alloc: Global,

@@ -1,4 +1,4 @@
--- of printed_rows and cert_read, given on
+-- of printed_rows and cert_read, re-exported
 pub use Rattle.printed_rows.specs.Answering
 pub use Rattle.printed_rows.specs.Writing
 pub use Rattle.printed_rows.specs.declared.text as Writers

@@ -1,4 +1,4 @@
-//! Checks a printed file that stands in memory, on the thread that calls.
+//! Checks a certificate that stands in memory, on the thread that calls.
 ghost use Rattle.std.specs.Prelude.{◌≡◌, ◌≤◌, ◌<◌, ◌⊎◌, true, false, length};
 ghost use Rattle.std.specs.Io.KnownBytes.{Keeps};
 ghost use Rattle.byte_streams.specs.Stream.{Rose};
@@ -36,7 +36,7 @@ fn check_file_alone<K: Sink, E: Evaluator>(
     Ok(is_right)
 }
 
-/// Checks bytes, whoever made them, by the answers of an evaluator: writes the verdicts of the lines of a printed file, or the
+/// Checks bytes, whoever made them, by the answers of an evaluator: writes the verdicts of the lines of a certificate, or the
 /// line that says why they are none.
 fn check_alone<K: Sink, E: Evaluator>(
     alloc: Global,
@@ -59,7 +59,7 @@ fn check_alone<K: Sink, E: Evaluator>(
 }
 
 /// Checks bytes in memory as `check` checks its input, on the thread that calls, by the answers of an evaluator: writes the
-/// verdicts of the lines of a printed file, or the line that says why the bytes are none. `Done` says that each verdict is yes,
+/// verdicts of the lines of a certificate, or the line that says why the bytes are none. `Done` says that each verdict is yes,
 /// `Mixed` that one isn't, `BadText` that the bytes aren't in the grammar, `TooLarge` that they are more than 268,435,456,
 /// `WriteFault` and `Memory` that a write failed or memory ran out.
 pub fn check_bytes<K: Sink, E: Evaluator>(
