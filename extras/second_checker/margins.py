@@ -11,7 +11,7 @@ OF_DAYS = {*SEASONS, "new-moon-before", "new-moon-from", "major-term", "minor-te
            "full-moon", "last-quarter"}
 FARTHEST = 40  # days, beyond which no meeting with a threshold is sought
 
-def _above(test, t):
+def above(test, t):
     """The tested number above its threshold, at a moment."""
     whole = (test.period or 360) * ONE
     return ((test.seen.function(Interval(t)).m + whole // 2) % whole - whole // 2) / ONE
@@ -19,8 +19,8 @@ def meeting(test):
     """The moment at which a test's number meets its threshold, by Newton's steps; None where it has no rate, or the moment is far."""
     t, step = test.seen.moment.m, ONE >> 10
     for _ in range(5):
-        rate = (_above(test, t + step) - _above(test, t - step)) * 512
-        days = -_above(test, t) / rate if rate else FARTHEST
+        rate = (above(test, t + step) - above(test, t - step)) * 512
+        days = -above(test, t) / rate if rate else FARTHEST
         if abs(days) >= FARTHEST: return None
         t += int(days * ONE)
     return Interval(t)
