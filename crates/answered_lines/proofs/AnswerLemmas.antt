@@ -1,12 +1,11 @@
 -- Answers to lines, and then to more: all of them, or a prefix of the answers to the first.
-use Rattle.std.proofs.Common.{◌≡◌, ◌∙◌, sym, ap, refl, ℕ, zero, suc, ◌+◌, ◌≤◌, ◌⊎◌, inl, inr, Bool, List, [], ◌∷◌, ◌++◌, length, take, append_assoc, append-nil, length-append, zero-add, arith}
+use Rattle.std.proofs.Common.{◌≡◌, ◌∙◌, sym, ap, refl, ℕ, suc, ◌+◌, ◌⊎◌, inl, inr, Bool, List, [], ◌∷◌, ◌++◌, length, take, append_assoc, append-nil, length-append, zero-add, arith}
 use Rattle.std.proofs.lemmas.List.{take-append-le}
 use Rattle.std.specs.Prelude.{Err}
 use Rattle.std.specs.declared.option.Option.{Option}
-use Rattle.std.specs.Io.KnownBytes.{Appends, Keeps}
+use Rattle.std.specs.Io.KnownBytes.{Keeps}
 use Rattle.book_model.specs.declared.version.TheConstants.{WRITTEN}
 use Rattle.book_model.specs.lines.Outcomes.{LineOutcome, AreRight}
-use Rattle.byte_streams.specs.Stream.{AppendsFront}
 use Rattle.byte_streams.proofs.Flow.{appends_none, appends_on, appends_kept, front_none, front_second}
 use Rattle.answered_lines.specs.Below.{Answered, AnswerCutShort, Performs, answer_text}
 use Rattle.run_core.specs.Writers.WriteStop.{WriteStop}

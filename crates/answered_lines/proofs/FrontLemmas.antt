@@ -12,9 +12,9 @@ use Rattle.book_model.specs.lines.Lines.{lines_of, raw_lines, without_return}
 use Rattle.book_model.specs.lines.Outcomes.{LineOutcome, refused, IsRightFor, AreRight}
 use Rattle.book_model.specs.lines.Requests.{request_of}
 use Rattle.answered_lines.specs.Below.{answer_text}
-use Rattle.answered_lines.specs.Lines.{FRONT, ended_lines, begun_line, last_line, kept_lines, kept_front, plain_lines}
+use Rattle.answered_lines.specs.Lines.{FRONT, ended_lines, last_line, kept_lines, kept_front, plain_lines}
 use Rattle.answered_lines.specs.Answers.{answers_text, AnswersAll, AnswersCut}
-use Rattle.answered_lines.proofs.LineLemmas.{kept-ended, kept_input, raw_split}
+use Rattle.answered_lines.proofs.LineLemmas.{kept-ended, kept_input}
 
 -- at most one byte is dropped
 length-without_return : (line : List ℕ) → length line ≤ length (without_return line) + 1

@@ -1,6 +1,6 @@
 -- Lines as they come. The lines that end in bytes, and the one that has begun, are told byte by byte; what is kept of them is told in the
 -- same way. Both are carried on over more bytes, and at the end of an input they are its lines, and the prefixes of these.
-use Rattle.std.proofs.Common.{◌≡◌, ◌∙◌, sym, ap, refl, ℕ, ◌+◌, ◌<◌, ◌≤◌, ◌==◌, Bool, true, false, List, [], ◌∷◌, ◌++◌, length, map, take, append_assoc, append-nil, length-append, arith}
+use Rattle.std.proofs.Common.{◌≡◌, ◌∙◌, sym, ap, refl, ℕ, ◌<◌, ◌≤◌, ◌==◌, Bool, true, false, List, [], ◌∷◌, ◌++◌, length, map, take, append_assoc, append-nil, length-append, arith}
 use Rattle.std.proofs.lemmas.List.{length-take, map-append, take_all, take-append-le}
 use Rattle.std.specs.Prelude.{if◌then◌else◌, nat_lt}
 use borrow.Author.Tests.{ltb-true, ltb-false}

@@ -1,10 +1,10 @@
 -- What the calls hand over, by what was gathered and by whether the room is large enough for it.
-use Rattle.std.proofs.Common.{◌≡◌, ◌⊎◌, inl, inr, ap, ℕ, Bool, true, false, List, []}
+use Rattle.std.proofs.Common.{◌≡◌, inl, inr, ap, ℕ, Bool, true, false, List, []}
 use mir.Syntax.{w32}
 use mir.Val.{of_z, to_z}
 use Rattle.std.specs.Prelude.{Some, ℤ}
 use Rattle.answered_lines.specs.Below.{LineOutcome, Answered}
-use Rattle.calendrica_c.specs.Handing.{IsAnswer, HandsAnswer, AreVerdicts, IsRefusal, IsCheck, HandsCheck}
+use Rattle.calendrica_c.specs.Handing.{IsAnswer, HandsAnswer, AreVerdicts, IsRefusal, HandsCheck}
 use Rattle.calendrica_c.specs.Rooms.{Filled, TooSmall, Hands, HandsNone, HandsAs, handed_of, number_of}
 use Rattle.calendrica_c.specs.declared.handed.Handed.{Handed}
 use Rattle.calendrica_c.specs.declared.handed.Handed.TheVariants.{Done, Mixed, Memory, TooLarge, BadText, NoRoom}

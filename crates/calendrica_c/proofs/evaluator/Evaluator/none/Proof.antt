@@ -1,5 +1,5 @@
 -- `none` makes an evaluator that owns nothing.
-use Rattle.std.proofs.Common.{◌≡◌, List, [], ◌∷◌, refl, lit<, false}
+use Rattle.std.proofs.Common.{◌≡◌, [], ◌∷◌, refl, false}
 use mir.Syntax.{Fn}
 use mir.Val.{Val}
 use base.Logic.{SProp, emp}
