@@ -12,7 +12,7 @@
  *   child of a fork of a process with threads.
  *
  * No call starts a thread, waits, reads a file or writes one, or ends the process. An evaluator keeps the facts that it has computed
- * for the calls that follow, in at most 88 MiB; a call takes as much as its text besides, and `calendrica_check` up to 17 times its
+ * for the calls that follow, in some 88 MiB at most; a call takes as much as its text besides, and `calendrica_check` up to 17 times its
  * input. 96 KiB of stack are enough.
  */
 #ifndef CALENDRICA_H
