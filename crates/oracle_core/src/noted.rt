@@ -70,8 +70,8 @@ impl Noted {
         place_among(self.list.facts(), fact)
     }
 
-    /// Adds the fact at the end, unless it is there. Where memory runs out the facts stay as they were; none is wanted
-    /// where the fact is there.
+    /// Adds the fact at the end, unless it is there. Where memory runs out the facts stay as they were; none is needed where the
+    /// fact is there.
     pub(crate) fn note(&mut self, fact: Fact) -> Result<(), AllocError>
         ensures ok { OnOk result (self.new ≡ with_fact self.old fact) }
         ensures err { OnErr result (self.new ≡ self.old) }

@@ -1,4 +1,4 @@
--- Numbers in 64 bits that are near a fraction; all count 2^-64.
+-- Numbers in 64 bits that are near a fraction; all are in units of 2^-64.
 use Rattle.std.specs.Prelude.{ℕ, ℤ, pos, ◌-ℤ◌, ◌+ℤ◌}
 use Rattle.book_model.specs.Fraction.{Fraction, ◌≤F◌, times}
 use Rattle.book_model.specs.Sums.{lower, upper, one_over}
