@@ -53,7 +53,7 @@ fn date_without_its_year(alloc: Global) -> (Result<BahaiDate, Stop>, usize) {
 }
 
 /// The date of a day by values at their bounds.
-fn date_by_ends(alloc: Global) -> (Result<BahaiDate, Stop>, usize) {
+fn date_by_bounds(alloc: Global) -> (Result<BahaiDate, Stop>, usize) {
     let facts = [
         bahai_year_on(0),
         bahai_year_on(-9_999_338),
@@ -90,5 +90,5 @@ fn dates_follow_the_tables(rt: HostRuntime) {
     let missing = Stop::Missing(bahai_year_on(739_878));
     assert!(rt; date_without_its_year(alloc) == (Err(missing), 2));
     // False tables have dates too.
-    assert!(rt; date_by_ends(alloc) == (Ok(FAR), 3));
+    assert!(rt; date_by_bounds(alloc) == (Ok(FAR), 3));
 }

@@ -152,7 +152,7 @@ fn date_without_its_month(alloc: Global) -> Counted<ChineseDate> {
 }
 
 /// The same day by values at their bounds.
-fn date_by_ends(alloc: Global) -> Counted<ChineseDate> {
+fn date_by_bounds(alloc: Global) -> Counted<ChineseDate> {
     let facts = [
         solstice_on(738_926),
         solstice_on(-9_999_630),
@@ -267,7 +267,7 @@ fn dates_follow_the_tables(rt: HostRuntime) {
     assert!(rt; date_of_2023(alloc) == (Ok(dated(40, 2, true, 1)), 18, 18));
     assert!(rt; date_of_2033(alloc) == (Ok(dated(50, 11, true, 1)), 9, 9));
     // False tables have dates too.
-    assert!(rt; date_by_ends(alloc) == (Ok(dated(40, 8, false, 0)), 5, 5));
+    assert!(rt; date_by_bounds(alloc) == (Ok(dated(40, 8, false, 0)), 5, 5));
     assert!(rt; date_in_a_circle(alloc) == (Ok(dated(40, 12, false, 1)), 8, 8));
 }
 

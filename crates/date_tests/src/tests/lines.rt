@@ -125,7 +125,7 @@ fn a_request_breaks_the_rule_of_its_line(rt: HostRuntime) {
 /// Dates just outside and at the bounds of what each version answers: of version 2 the first date without an answer before its
 /// range, and its first date; the same of version 1, whose range lies within; then the last ones likewise.
 #[rattlefmt::skip]
-const ENDS: [(&str, [&str; 8]); 9] = [
+const BOUNDS: [(&str, [&str; 8]); 9] = [
     ("gregorian", ["1701-12-31", "1702-01-01", "1801-12-31", "1802-01-01", "2048-12-31", "2049-01-01", "2148-12-31", "2149-01-01"]),
     ("fixed", ["621277", "621278", "657801", "657802", "748017", "748018", "784541", "784542"]),
     ("persian", ["1079-1-1", "1080-1-1", "1179-1-1", "1180-1-1", "1427-1-1", "1428-1-1", "1527-1-1", "1528-1-1"]),
@@ -151,7 +151,7 @@ const ANSWERED: [(bool, bool); 8] = [
 
 /// Dates at the bounds of what version 2 answers in the calendars that it alone has, each with whether it is answered.
 #[rattlefmt::skip]
-const LATER_ENDS: [(&str, bool); 12] = [
+const LATER_BOUNDS: [(&str, bool); 12] = [
     ("french 1-1-1", true),
     ("french 357-13-6", true),
     ("french 358-1-1", false),
@@ -201,7 +201,7 @@ fn range_unless(is_answered: bool) -> Option<Rule> {
 
 #[test]
 fn each_version_answers_its_own_years(rt: HostRuntime) -> Result<(), Fail> {
-    for (from, dates) in ENDS {
+    for (from, dates) in BOUNDS {
         for place in 0..ANSWERED.len() {
             let (by_one, by_two) = ANSWERED[place];
             let line = format!(in rt.alloc(); "{from} {} dt", dates[place])?;
@@ -214,7 +214,7 @@ fn each_version_answers_its_own_years(rt: HostRuntime) -> Result<(), Fail> {
 #[test]
 fn words_of_version_2_are_read_by_it_alone(rt: HostRuntime) -> Result<(), Fail> {
     let none = Some(Rule::Calendar);
-    for (date, is_answered) in LATER_ENDS {
+    for (date, is_answered) in LATER_BOUNDS {
         let line = format!(in rt.alloc(); "{date} hebrew-observed")?;
         assert_breaks(&rt, &line, none, range_unless(is_answered));
     }

@@ -150,7 +150,7 @@ fn dates_are_those_of_the_tables(rt: HostRuntime) {
 }
 
 #[test]
-fn a_stop_keeps_what_was_asked_before(rt: HostRuntime) {
+fn an_early_return_keeps_what_was_asked_before(rt: HostRuntime) {
     let second = date_over_one(rt.alloc(), 738_965, 738_965, 738_965);
     let missing = Stop::Missing(nowruz_on(739_145));
     assert!(rt; second == (Err(missing), 1));

@@ -102,7 +102,7 @@ const ARCS: [(i64, i64, i128, i128); 10] = [
 ];
 
 #[test]
-fn the_arctangents_of_both_ends_lie_in_that_of_a_span(rt: HostRuntime) {
+fn the_arctangents_of_both_endpoints_lie_in_that_of_a_span(rt: HostRuntime) {
     for (from, to, low, high) in ARCS {
         let arc = arctan_deg(range::<Coarse>((from, to)));
         assert!(rt;

@@ -48,7 +48,7 @@ fn comparisons_are_told<E: Enclosure>(
 }
 
 #[test]
-fn a_comparison_is_open_where_the_ends_leave_it_open(rt: HostRuntime) {
+fn a_comparison_is_undecided_where_the_endpoints_leave_it_so(rt: HostRuntime) {
     comparisons_are_told::<Coarse>(&rt, &COMPARISONS);
     comparisons_are_told::<Fine>(&rt, &COMPARISONS);
     comparisons_are_told::<Rough>(&rt, &COMPARISONS);
@@ -68,7 +68,7 @@ fn comparing_steps_are_told<E: Enclosure>(
 }
 
 #[test]
-fn steps_carry_the_comparison_that_is_open(rt: HostRuntime) {
+fn steps_carry_the_comparison_that_is_undecided(rt: HostRuntime) {
     comparing_steps_are_told::<Coarse>(&rt, &COMPARISONS);
     comparing_steps_are_told::<Fine>(&rt, &COMPARISONS);
     comparing_steps_are_told::<Rough>(&rt, &COMPARISONS);
@@ -105,7 +105,7 @@ fn floors_are_told<E: Enclosure>(rt: &impl Abort, rows: &[(Fractions, Result<i64
 }
 
 #[test]
-fn a_floor_is_open_where_the_ends_differ(rt: HostRuntime) {
+fn a_floor_is_undecided_where_the_endpoints_differ(rt: HostRuntime) {
     floors_are_told::<Coarse>(&rt, &FLOORS);
     floors_are_told::<Fine>(&rt, &FLOORS);
     floors_are_told::<Rough>(&rt, &FLOORS);
@@ -176,16 +176,16 @@ fn wraps_are_told<E: Enclosure + Debug + PartialEq>(
 }
 
 #[test]
-fn a_wrap_is_open_where_the_periods_differ(rt: HostRuntime) {
+fn a_wrap_is_undecided_where_the_periods_differ(rt: HostRuntime) {
     wraps_are_told::<Coarse>(&rt, &WRAPS);
     wraps_are_told::<Fine>(&rt, &WRAPS);
     wraps_are_told::<Rough>(&rt, &WRAPS);
 }
 
 #[test]
-fn what_is_open_at_coarse_ends_is_decided_at_fine_ones(rt: HostRuntime) {
+fn what_is_undecided_at_coarse_endpoints_is_decided_at_fine_ones(rt: HostRuntime) {
     let hardly_above_1 = (1_099_511_627_777, 1_099_511_627_777, 1_099_511_627_776);
-    let open = Undecided {
+    let undecided = Undecided {
         turn: 1,
         site: Site::PhasePick,
         lo: 72_057_594_037_927_936,
@@ -193,7 +193,7 @@ fn what_is_open_at_coarse_ends_is_decided_at_fine_ones(rt: HostRuntime) {
     };
     let mut trail = Trail::new();
     let coarse = Coarse::from_int(1).less(fractions(hardly_above_1), Site::PhasePick, &mut trail);
-    assert_eq!(rt; coarse, Err(open));
+    assert_eq!(rt; coarse, Err(undecided));
     let fine = Fine::from_int(1).less(fractions(hardly_above_1), Site::PhasePick, &mut trail);
     assert_eq!(rt; fine, Ok(true));
 }

@@ -156,7 +156,7 @@ fn ranges_are_made<E: Enclosure + Debug + PartialEq>(
 }
 
 #[test]
-fn ranges_have_their_ends(rt: HostRuntime) {
+fn ranges_have_their_endpoints(rt: HostRuntime) {
     ranges_are_made::<Coarse>(&rt, &RANGES);
     ranges_are_made::<Fine>(&rt, &RANGES);
     ranges_are_made::<Rough>(&rt, &RANGES);
@@ -284,7 +284,10 @@ const SPANS: [(Ends, i128, i128); 5] = [
 ];
 
 /// Asserts that ranges have their endpoints, and are the ranges of these.
-fn spans_are_ends<E: Enclosure + Debug + PartialEq>(rt: &impl Abort, rows: &[(Ends, i128, i128)]) {
+fn spans_are_endpoints<E: Enclosure + Debug + PartialEq>(
+    rt: &impl Abort,
+    rows: &[(Ends, i128, i128)],
+) {
     for (ends, lo, hi) in rows {
         let x = range::<E>(*ends);
         assert_eq!(rt; x.span(), span(*lo, *hi), "{ends:?}");
@@ -297,11 +300,11 @@ fn spans_are_ends<E: Enclosure + Debug + PartialEq>(rt: &impl Abort, rows: &[(En
 }
 
 #[test]
-fn a_span_has_the_ends_at_its_scale(rt: HostRuntime) {
-    spans_are_ends::<Coarse>(&rt, &SPANS);
-    spans_are_ends::<Fine>(&rt, &SPANS);
-    spans_are_ends::<Rough>(&rt, &SPANS);
-    spans_are_ends::<Fine>(
+fn a_span_has_the_endpoints_at_its_scale(rt: HostRuntime) {
+    spans_are_endpoints::<Coarse>(&rt, &SPANS);
+    spans_are_endpoints::<Fine>(&rt, &SPANS);
+    spans_are_endpoints::<Rough>(&rt, &SPANS);
+    spans_are_endpoints::<Fine>(
         &rt,
         &[(
             (i64::MIN, i64::MIN),

@@ -76,13 +76,13 @@ fn a_search_answers_the_first_day(rt: HostRuntime) {
 /// The day doesn't fit in the endpoints of these kinds.
 #[test]
 fn a_search_fails_where_its_test_does(rt: HostRuntime) {
-    let open = Undecided {
+    let undecided = Undecided {
         turn: 1,
         site: Site::DayTest,
         lo: i128::MIN,
         hi: i128::MAX,
     };
-    let failed = (Err(FormulaFail::Undecided(open)), 1);
+    let failed = (Err(FormulaFail::Undecided(undecided)), 1);
     assert_eq!(rt; first_after::<Coarse>(200_000_000), failed);
     assert_eq!(rt; first_after::<Rough>(200_000_000), failed);
 }

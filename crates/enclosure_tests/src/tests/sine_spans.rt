@@ -84,7 +84,7 @@ const SINES: [(i64, i64, i128, i128); 11] = [
 ];
 
 #[test]
-fn the_sines_of_both_ends_lie_in_that_of_a_span(rt: HostRuntime) {
+fn the_sines_of_both_endpoints_lie_in_that_of_a_span(rt: HostRuntime) {
     for (from, to, first, last) in SINES {
         let sine = sin_deg(range::<Coarse>((from, to)));
         assert!(rt;

@@ -7,10 +7,10 @@ use std::test::Fail;
 
 mod again;
 mod forms;
-mod fronts;
 mod headers;
 mod numbers;
 mod order;
+mod prefixes;
 mod rules;
 
 /// The line and the rule that bytes break, or nothing for a file of the grammar.
@@ -51,7 +51,7 @@ static TEXTS: [(Option<u8>, &[&str]); 19] = [
     (Some(2), numbers::COUNTERS),
     (Some(3), numbers::LARGE_COUNTERS),
     (Some(2), numbers::DAYS_AND_VALUES),
-    (Some(2), numbers::ENDS),
+    (Some(2), numbers::BOUNDS),
     (Some(2), order::FORM_FIRST),
     (Some(3), order::NUMBER_FIRST),
     (Some(7), order::PLACE_FIRST),

@@ -51,7 +51,7 @@ fn places_stand_in_order(rt: HostRuntime) -> Result<(), Fail> {
 }
 
 #[test]
-fn the_gate_is_told_once_of_each_piece(rt: HostRuntime) -> Result<(), Fail> {
+fn the_gate_is_told_once_of_each_chunk(rt: HostRuntime) -> Result<(), Fail> {
     for (count, jobs) in [(7usize, 3usize), (1, 3), (0, 3)] {
         let gate = Told::new();
         let squares = map_places(&rt, rt.alloc(), count, jobs, &gate, &square)?;

@@ -101,11 +101,11 @@ fn write_refusals(alloc: Global, sink: &mut MemorySink) -> Result<(), Fail> {
 }
 
 /// Writes the fifth and the sixth line.
-fn write_open_and_void(alloc: Global, sink: &mut MemorySink) -> Result<(), Fail> {
+fn write_undecided_and_void(alloc: Global, sink: &mut MemorySink) -> Result<(), Fail> {
     let fact = correction_on(738_926)?;
     let earlier = correction_on(-5)?;
-    let open = CertLine::Undecided { fact, at: ROUNDING };
-    write_alone(alloc, sink, 5, open)?;
+    let undecided = CertLine::Undecided { fact, at: ROUNDING };
+    write_alone(alloc, sink, 5, undecided)?;
     let void = CertLine::Void {
         fact: earlier,
         site: Site::BisectEnd,
@@ -120,7 +120,7 @@ fn each_form_is_written(rt: HostRuntime) -> Result<(), Fail> {
     let mut sink = MemorySink::new(alloc, 1000, Vec::new(alloc))?;
     write_block(&mut sink, &first_block(alloc)?)?;
     write_refusals(alloc, &mut sink)?;
-    write_open_and_void(alloc, &mut sink)?;
+    write_undecided_and_void(alloc, &mut sink)?;
     assert!(rt; sink.written() == TEXT);
     Ok(())
 }
@@ -129,7 +129,7 @@ fn each_form_is_written(rt: HostRuntime) -> Result<(), Fail> {
 const FIRST_BLOCK: usize = 70;
 
 #[test]
-fn a_sink_that_is_full_keeps_a_front_of_the_block(rt: HostRuntime) -> Result<(), Fail> {
+fn a_sink_that_is_full_keeps_a_prefix_of_the_block(rt: HostRuntime) -> Result<(), Fail> {
     let alloc = rt.alloc();
     for room in 0..FIRST_BLOCK + 1 {
         let mut sink = MemorySink::new(alloc, room, Vec::new(alloc))?;

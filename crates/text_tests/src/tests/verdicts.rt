@@ -114,7 +114,7 @@ static FILES: [(&str, &str, &str); 19] = [
         "yes 1\n",
     ),
     (
-        "a result with a zero in front",
+        "a result with a leading zero",
         "calendrica 1 depth 40\nfact 1 dt - 738926 73871\nline 1 gregorian 2024-02-10 fixed 0738926 facts\nend lines 1 facts 1\n",
         "no 1 date 738926\n",
     ),
@@ -339,7 +339,7 @@ const TOLD: &[u8] = b"no 4294967295 date 1802-01-01\n\
     end yes 1 no 20 skip 300\n";
 
 #[test]
-fn results_open_tests_and_counts_are_told(rt: HostRuntime) -> Result<(), Fail> {
+fn results_undecided_tests_and_counts_are_told(rt: HostRuntime) -> Result<(), Fail> {
     let mut told = Gathered::new(rt.alloc());
     let fields = Fields {
         count: 3,
@@ -353,8 +353,8 @@ fn results_open_tests_and_counts_are_told(rt: HostRuntime) -> Result<(), Fail> {
         lo: -5,
         hi: 7,
     };
-    let open = Reason::Undecided(correction_on(738_927)?, at);
-    write_verdict(&mut told, 1, &Verdict::No(open))?;
+    let undecided = Reason::Undecided(correction_on(738_927)?, at);
+    write_verdict(&mut told, 1, &Verdict::No(undecided))?;
     write_counts(&mut told, 1, 20, 300)?;
     assert!(rt; told.bytes() == TOLD);
     completeness();

@@ -136,7 +136,7 @@ fn words_in_the_form_tell_a_command(rt: HostRuntime) -> Result<(), Fail> {
 }
 
 #[test]
-fn words_in_the_form_tell_the_jobs(rt: HostRuntime) -> Result<(), Fail> {
+fn arguments_in_the_form_tell_the_threads(rt: HostRuntime) -> Result<(), Fail> {
     let command = Command::Convert;
     for (line, jobs) in JOBS {
         assert_told(&rt, rt.alloc(), line, Ok(Order { command, jobs }))?;

@@ -10,7 +10,7 @@ const WHOLE: &[u8] = b"calendrica 1 depth 40\n\
     end lines 2 facts 1\n";
 
 /// The rule and the line that prefixes break, from one length to before another. Without its last line feed it is a file still.
-const FRONTS: [(usize, usize, Option<(usize, u8)>); 12] = [
+const PREFIXES: [(usize, usize, Option<(usize, u8)>); 12] = [
     (0, 21, Some((1, 1))),
     (21, 23, Some((2, 6))),
     (23, 42, Some((2, 2))),
@@ -26,8 +26,8 @@ const FRONTS: [(usize, usize, Option<(usize, u8)>); 12] = [
 ];
 
 #[test]
-fn a_front_of_a_file_is_no_file(rt: HostRuntime) -> Result<(), Fail> {
-    for (from, to, want) in FRONTS {
+fn a_prefix_of_a_file_is_no_file(rt: HostRuntime) -> Result<(), Fail> {
+    for (from, to, want) in PREFIXES {
         for length in from..to {
             let front = &WHOLE[..length.min(WHOLE.len())];
             assert_breaks(&rt, rt.alloc(), front, want, "a front")?;

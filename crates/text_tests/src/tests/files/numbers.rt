@@ -69,7 +69,7 @@ pub const DAYS_AND_VALUES: &[&str] = &[
 ];
 
 /// Bounds of undecided tests that don't fit or have another spelling.
-pub const ENDS: &[&str] = &[
+pub const BOUNDS: &[&str] = &[
     "line 1 undecided year 1 -170141183460469231731687303715884105729 0 fact dt - 1",
     "line 1 undecided year 1 0 170141183460469231731687303715884105728 fact dt - 1",
     "line 1 undecided year 1 0 1000000000000000000000000000000000000007 fact dt - 1",
