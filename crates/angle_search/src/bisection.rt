@@ -14,7 +14,7 @@ use book_model::{Fail, Site};
 use encl_core::{Enclosure, Trail, less_step, wrap_step};
 
 /// How many iterations a bisection makes at most.
-const TURNS: u32 = 64;
+const ITERATIONS: u32 = 64;
 
 /// Half a turn of the circle, in degrees.
 const HALF_CIRCLE: i64 = 180;
@@ -140,5 +140,5 @@ pub fn invert_angular<E: Enclosure, F: Angular<E>>(
         → Measures (λ x. IsMoment (greatest_of BISECTION v) (E.shown x)) result }
 {
     let mut known = Known::<F>::new();
-    bisected(TURNS, f, &mut known, y, low, high, trail)
+    bisected(ITERATIONS, f, &mut known, y, low, high, trail)
 }

@@ -18,7 +18,7 @@ use encl_core::parts::ONE;
 use encl_core::{Enclosure, Trail, floor_step};
 
 /// A number in units of 2⁻⁵⁶ with a whole number added, where the sum fits 128 bits.
-fn shifted_end(end: i128, whole: i64) -> Option<i128>
+fn shifted_bound(end: i128, whole: i64) -> Option<i128>
     ensures end { IfSome result (λ e. e ≡ end +ℤ whole *ℤ ONE) }
     ensures found { FitsSigned w128 (end +ℤ whole *ℤ ONE) → IsSome result }
 {
@@ -41,8 +41,8 @@ fn shifted_by(at: Undecided, whole: i64) -> Undecided
         lo: i128::MIN,
         hi: i128::MAX,
     };
-    if let Some(lo) = shifted_end(at.lo, whole) {
-        if let Some(hi) = shifted_end(at.hi, whole) {
+    if let Some(lo) = shifted_bound(at.lo, whole) {
+        if let Some(hi) = shifted_bound(at.hi, whole) {
             moved.lo = lo;
             moved.hi = hi;
         }

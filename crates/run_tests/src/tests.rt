@@ -89,9 +89,9 @@ fn assert_run<R: Threads + Abort + Sync>(
     text: &str,
 ) -> Result<(), Fail> {
     let bytes = text.as_bytes();
-    let front = &bytes[..streams.room.min(bytes.len())];
+    let prefix = &bytes[..streams.room.min(bytes.len())];
     let (got, sink) = run_in_memory(rt, alloc, words, streams, &Staged::new(), &OpenGate)?;
-    let holds = (got, sink.written()) == (status, front);
+    let holds = (got, sink.written()) == (status, prefix);
     assert!(rt; holds, "{words:?}: {text}");
     Ok(())
 }

@@ -367,7 +367,7 @@ fn facts_of_2024_are_decided(rt: HostRuntime) {
 
 /// Facts that coarse enclosures leave undecided, and their values.
 #[rattlefmt::skip]
-const OPEN: [(Kind, Place, i64, i64); 6] = [
+const UNDECIDED: [(Kind, Place, i64, i64); 6] = [
     (Kind::Dt, Place::None, 659_263, 12_494),
     (Kind::Dt, Place::None, 721_109, 45_659),
     // The one fact of the 700 lines of `sample 700 1` that coarse enclosures leave undecided.
@@ -383,9 +383,9 @@ fn coarse_answer(kind: Kind, place: Place, day: i64) -> Option<Answer> {
 }
 
 #[test]
-fn what_coarse_enclosures_leave_open_is_decided(rt: HostRuntime) {
-    assert_facts(&rt, &Staged::new(), &OPEN);
-    for (kind, place, day, _) in OPEN {
+fn what_coarse_enclosures_leave_undecided_is_decided(rt: HostRuntime) {
+    assert_facts(&rt, &Staged::new(), &UNDECIDED);
+    for (kind, place, day, _) in UNDECIDED {
         let coarse = coarse_answer(kind, place, day);
         assert!(rt; matches!(coarse, Some(Answer::Undecided(_))), "day {day}");
     }

@@ -248,7 +248,7 @@ fn facts_are_those_of_the_reference(rt: HostRuntime) {
 }
 
 #[test]
-fn asked_facts_are_kept_once(rt: HostRuntime) -> Result<(), Fail> {
+fn asked_facts_are_stored_once(rt: HostRuntime) -> Result<(), Fail> {
     let alloc = rt.alloc();
     let staged = Staged::new();
     let mut asking = Asking::new(alloc, &staged);
@@ -258,8 +258,8 @@ fn asked_facts_are_kept_once(rt: HostRuntime) -> Result<(), Fail> {
     assert_eq!(rt; asking.ask(other), Err(Stop::Void(other, Site::Year)));
     assert_eq!(rt; asking.ask(fact), Ok(73_871));
     assert_eq!(rt; asking.asked().len(), 1);
-    let kept = asking.finish();
-    assert_eq!(rt; kept.len(), 1);
-    assert_eq!(rt; *kept.item(0), (fact, 73_871));
+    let stored = asking.finish();
+    assert_eq!(rt; stored.len(), 1);
+    assert_eq!(rt; *stored.item(0), (fact, 73_871));
     Ok(())
 }

@@ -74,14 +74,14 @@ fn damages_are_told(rt: HostRuntime) -> Result<(), Fail> {
 }
 
 #[test]
-fn a_front_of_a_file_is_no_file(rt: HostRuntime) -> Result<(), Fail> {
+fn a_prefix_of_a_file_is_no_file(rt: HostRuntime) -> Result<(), Fail> {
     let file = PERSIAN_TEXT.as_bytes();
     for (end, _) in file.iter().enumerate() {
         // The last byte is a line feed, without which it is a file still.
         let is_file = end.saturating_add(1) == file.len();
         for words in CHECKS {
-            let front = whole(&file[..end]);
-            let run = run_in_memory(&rt, rt.alloc(), words, front, &Staged::new(), &OpenGate)?;
+            let prefix = whole(&file[..end]);
+            let run = run_in_memory(&rt, rt.alloc(), words, prefix, &Staged::new(), &OpenGate)?;
             let (got, sink) = run;
             let told = (got != Status::BadText, !sink.written().starts_with(b"bad "));
             assert!(rt; told == (is_file, is_file), "{words:?}: {end}");

@@ -26,7 +26,7 @@ impl Evaluator for CoarseWhereClose {
 
 /// What `convert` writes for a line whose fact coarse enclosures leave undecided, by bounds that are near: the months since a new
 /// moon lie from two parts of 2⁻³⁶ below a whole number of months to that number.
-const OPEN_TEXT: &str = "calendrica 2 depth 40\n\
+const UNDECIDED_TEXT: &str = "calendrica 2 depth 40\n\
     line 1 undecided phase-wrap 242 -2097152 0 fact phasis cairo 695106\n\
     end lines 1 facts 0\n";
 
@@ -37,18 +37,19 @@ const DECIDED_TEXT: &str = "calendrica 2 depth 40\n\
     end lines 1 facts 1\n";
 
 /// What `check` writes for it over coarse enclosures.
-const OPEN_VERDICT: &str = "no 1 undecided phase-wrap 242 -2097152 0 fact phasis cairo 695106\n\
+const UNDECIDED_VERDICT: &str =
+    "no 1 undecided phase-wrap 242 -2097152 0 fact phasis cairo 695106\n\
     end yes 0 no 1 skip 0\n";
 
 /// A line that is decided, and one that isn't.
-const DECIDED_AND_OPEN: &str = "calendrica 1 depth 40\n\
+const DECIDED_AND_UNDECIDED: &str = "calendrica 1 depth 40\n\
     fact 1 phasis cairo 695106 695104\n\
     line 1 fixed 695106 islamic 1321-12-3 facts 1\n\
     line 2 undecided phase-wrap 7 -3 2 fact phasis cairo 695136\n\
     end lines 2 facts 1\n";
 
 /// What `upgrade` makes of it where the fact of the first is left undecided: that line is computed, the other copied.
-const BOTH_OPEN: &str = "calendrica 2 depth 40\n\
+const BOTH_UNDECIDED: &str = "calendrica 2 depth 40\n\
     line 1 undecided phase-wrap 242 -2097152 0 fact phasis cairo 695106\n\
     line 2 undecided phase-wrap 7 -3 2 fact phasis cairo 695136\n\
     end lines 2 facts 0\n";
@@ -57,27 +58,32 @@ const BOTH_OPEN: &str = "calendrica 2 depth 40\n\
 const SAMPLE: &str = "sample 700 1 decided 700 undecided 0 void 0 refused 0 facts 2563\n";
 
 /// Arguments, an input, how the run over coarse enclosures ends, and what it writes.
-const OPEN: [(&[&str], &str, Status, &str); 5] = [
+const UNDECIDED: [(&[&str], &str, Status, &str); 5] = [
     (
         &["convert"],
         "fixed 695106 islamic\n",
         Status::Mixed,
-        OPEN_TEXT,
+        UNDECIDED_TEXT,
     ),
-    (&["check"], DECIDED_TEXT, Status::Mixed, OPEN_VERDICT),
+    (&["check"], DECIDED_TEXT, Status::Mixed, UNDECIDED_VERDICT),
     (
         &["check"],
-        OPEN_TEXT,
+        UNDECIDED_TEXT,
         Status::Mixed,
         "skip 1\nend yes 0 no 0 skip 1\n",
     ),
-    (&["upgrade"], DECIDED_AND_OPEN, Status::Mixed, BOTH_OPEN),
+    (
+        &["upgrade"],
+        DECIDED_AND_UNDECIDED,
+        Status::Mixed,
+        BOTH_UNDECIDED,
+    ),
     (&["sample", "700", "1"], "", Status::Done, SAMPLE),
 ];
 
 #[test]
-fn an_open_fact_leaves_its_line_undecided(rt: HostRuntime) -> Result<(), Fail> {
-    for (words, input, status, text) in OPEN {
+fn an_undecided_fact_leaves_its_line_undecided(rt: HostRuntime) -> Result<(), Fail> {
+    for (words, input, status, text) in UNDECIDED {
         let streams = Streams {
             input: input.as_bytes(),
             read: 0,

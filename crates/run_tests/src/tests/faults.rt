@@ -70,19 +70,19 @@ fn writes_of<R: Threads + Sync>(
     let text = whole.written();
     for writes in 0..99u32 {
         let (got, sink) = run_failing(rt, alloc, words, input, 0, writes + 1)?;
-        let front = sink.written();
-        if got == status && front == text {
+        let prefix = sink.written();
+        if got == status && prefix == text {
             return Ok(writes);
         }
-        if got != Status::WriteFault || front.len() >= text.len() || !text.starts_with(front) {
-            return Err("no front of the text")?;
+        if got != Status::WriteFault || prefix.len() >= text.len() || !text.starts_with(prefix) {
+            return Err("no prefix of the text")?;
         }
     }
     Err("too many writes")?
 }
 
 #[test]
-fn a_write_that_fails_leaves_a_front_of_the_text(rt: HostRuntime) -> Result<(), Fail> {
+fn a_write_that_fails_leaves_a_prefix_of_the_text(rt: HostRuntime) -> Result<(), Fail> {
     for (words, input, _) in COMMANDS {
         assert!(rt; writes_of(&rt, rt.alloc(), words, input)? > 0, "{words:?}");
     }

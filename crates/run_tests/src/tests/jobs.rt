@@ -107,7 +107,7 @@ const MEETINGS: [(&[&str], &str, &str); 3] = [
 ];
 
 #[test]
-fn two_pieces_are_worked_at_the_same_time(rt: HostRuntime) -> Result<(), Fail> {
+fn two_chunks_are_worked_at_the_same_time(rt: HostRuntime) -> Result<(), Fail> {
     let alloc = rt.alloc();
     assert!(rt; rows_meet(&rt, alloc)?, "map_lines");
     assert!(rt; facts_meet(&rt, alloc)?, "map_facts");

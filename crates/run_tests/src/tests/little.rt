@@ -90,8 +90,8 @@ fn bytes_come_and_go_one_by_one(rt: HostRuntime) -> Result<(), Fail> {
             Status::Done
         };
         assert!(rt; got == want, "at {failing}");
-        let front = &text[..text.len().min(failing as usize - 1)];
-        assert!(rt; sink.bytes.as_slice() == front, "at {failing}");
+        let prefix = &text[..text.len().min(failing as usize - 1)];
+        assert!(rt; sink.bytes.as_slice() == prefix, "at {failing}");
     }
     Ok(())
 }

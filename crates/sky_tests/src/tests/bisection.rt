@@ -34,7 +34,7 @@ impl<E: Enclosure> Angular<E> for Identity {
 }
 
 #[test]
-fn a_third_is_found_to_the_middle_of_the_last_ends(rt: HostRuntime) {
+fn a_third_is_found_to_the_middle_of_the_last_bounds(rt: HostRuntime) {
     let mut trail = Trail::new();
     let (low, high) = (Coarse::from_int(0), Coarse::from_int(1));
     let found = match invert_angular(&Identity, fraction(1, 3), low, high, &mut trail) {

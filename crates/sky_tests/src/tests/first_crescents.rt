@@ -93,7 +93,7 @@ fn is_seen(day: i64, seen: bool, tests: u32) -> bool {
 }
 
 /// Whether the crescent was first seen with the evening of a day, as it is asked of another, by so many tests.
-fn is_sight(day: i64, first: i64, tests: u32) -> bool {
+fn is_first_visibility(day: i64, first: i64, tests: u32) -> bool {
     let mut trail = Trail::new();
     let found = phasis::<Coarse>(&CAIRO, day.clamp(0, 800_000), &mut trail);
     is_counted(found, &trail, first, tests)
@@ -105,6 +105,9 @@ fn sights_are_those_of_the_reference(rt: HostRuntime) {
         assert!(rt; is_seen(day, seen, tests), "the evening before {day}");
     }
     for (day, first, tests) in SIGHTS {
-        assert!(rt; is_sight(day, first, tests), "the first sight before {day}");
+        assert!(rt;
+            is_first_visibility(day, first, tests),
+            "the first visibility before {day}"
+        );
     }
 }

@@ -12,11 +12,11 @@ fn values(day: i64, trail: &mut Trail) -> Result<[i64; 7], FormulaFail> {
     // Of other days no value is asked.
     let day = day.clamp(620_729, 784_906);
     let phases = PhaseCourse::<Coarse>::usual();
-    let course = SunCourse::<Coarse>::always();
+    let model = SunCourse::<Coarse>::always();
     Ok([
-        sign_at_sunset::<Coarse>(&course, day, trail)?,
+        sign_at_sunset::<Coarse>(&model, day, trail)?,
         solar_year::<Coarse>(day, trail)?,
-        sankranti::<Coarse>(&course, day, trail)?,
+        sankranti::<Coarse>(&model, day, trail)?,
         tithi::<Coarse>(day, trail)?,
         sign_before::<Coarse>(&phases, day, trail)?,
         sign_after::<Coarse>(&phases, day, trail)?,

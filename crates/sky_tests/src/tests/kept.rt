@@ -125,7 +125,7 @@ const RUNS: [Step; 53] = [
 ];
 
 #[test]
-fn what_is_kept_is_what_would_be_evaluated(rt: HostRuntime) {
+fn what_is_cached_is_what_would_be_evaluated(rt: HostRuntime) {
     let mut trail = Trail::new();
     let mut steps = 0_u32;
     for step in RUNS {

@@ -9,7 +9,7 @@ use time_scales::zone_at;
 const UNITS_IN_DAY: u64 = 1 << 36;
 
 /// The bounds of an undecided test are in units of 2⁻⁵⁶.
-const ENDS_IN_DAY: i128 = 1 << 56;
+const FINE_UNITS_IN_DAY: i128 = 1 << 56;
 
 /// The hours of places a 2³⁶th of a day before a day (R.D.) on which their time changes, and as it begins, as floors at 2⁻⁵⁶, and how
 /// many tests that makes.
@@ -64,24 +64,24 @@ const CHANGES: [(Place, i64, u32); 7] = [
 ];
 
 /// Whether the hours of a place are undecided around a day, at its bounds, by the test of a number.
-fn is_open(place: Place, day: i64, number: u32) -> bool {
+fn is_undecided(place: Place, day: i64, number: u32) -> bool {
     let before = day.saturating_sub(1);
     match zone_at(place, from_to((before, day)), &mut Trail::new()) {
         Err(FormulaFail::Undecided(at)) => {
             at.turn == number
                 && at.site.number() == Site::Zone.number()
-                && at.lo == i128::from(before).saturating_mul(ENDS_IN_DAY)
-                && at.hi == i128::from(day).saturating_mul(ENDS_IN_DAY)
+                && at.lo == i128::from(before).saturating_mul(FINE_UNITS_IN_DAY)
+                && at.hi == i128::from(day).saturating_mul(FINE_UNITS_IN_DAY)
         }
         _ => false,
     }
 }
 
 #[test]
-fn the_time_of_a_place_is_open_around_a_change(rt: HostRuntime) {
+fn the_time_of_a_place_is_undecided_around_a_change(rt: HostRuntime) {
     for (place, day, number) in CHANGES {
         assert!(rt;
-            is_open(place, day, number),
+            is_undecided(place, day, number),
             "{} around {day}",
             place.name()
         );
