@@ -6,7 +6,7 @@ from . import svg
 SECTION = "## The walk of a line"
 CRATE_X, CALL_X, WORDS_X, WIDTH = 16, 150, 300, 920
 ROW, HEIGHT, HEAD, SIZE = 40, 28, 56, 12
-COLOURS = {"byte_streams": "#e6e0f3", "run_core": "#f6dcd6", "line_core": "#dbe9f6", "printed_rows": "#f6dcd6", "jobs_core": "#dbe9f6",
+COLOURS = {"byte_streams": "#e6e0f3", "run_core": "#f6dcd6", "line_core": "#dbe9f6", "conversion": "#f6dcd6", "jobs_core": "#dbe9f6",
            "fact_eval": "#fbeec4"}
 CALENDAR_COLOUR = "#dbe9f6"
 

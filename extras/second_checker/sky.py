@@ -7,7 +7,7 @@ from functools import lru_cache
 from .intervals import (BITS, ONE, PI, Interval, arctangent_of_two, cosine, greatest, interval, least, polynomial, sine, sine_and_cosine,
                         tangent)
 from .run import DAY, HALF, SILENT, Run, Seen, Undecided, Void, span
-from .tables import COEFFICIENTS, CONSTANT, DEFINED, WAVES, number, numbers, rows
+from .tables import COEFFICIENTS, CONSTANT, DEFINED, SINGLE_TERMS, number, numbers, rows
 
 S, T, Y, NOON_2000 = (CONSTANT[name] for name in ("SYNODIC_MONTH", "TROPICAL_YEAR", "SIDEREAL_YEAR", "NOON_2000"))
 # Seconds in which an angle grows by a degree, about.
@@ -76,22 +76,22 @@ class Place:
 PLACES = {row["word"]: Place(row) for row in rows("places")}
 
 # --- the sun ---
-def wave(name, c, at=sine):
-    size, *angle = WAVES[name]
+def periodic_term(name, c, at=sine):
+    size, *angle = SINGLE_TERMS[name]
     return size * at(polynomial(angle, c))
-def nutation(c): return wave("NODE_NUTATION", c) + wave("SOLAR_NUTATION", c)
+def nutation(c): return periodic_term("NODE_NUTATION", c) + periodic_term("SOLAR_NUTATION", c)
 
 SUN_UNIT = DEFINED["Sun", "sun_unit"][0]
-_SUN_ROWS = [(x, interval(y).m, interval(z).m) for x, y, z in (numbers(row, "x", "y", "z") for row in rows("sun-waves"))]
+_SUN_ROWS = [(x, interval(y).m, interval(z).m) for x, y, z in (numbers(row, "x", "y", "z") for row in rows("sun-terms"))]
 _SUN_SIZE, _SUN_REACH = sum(x for x, _, _ in _SUN_ROWS), sum(x * abs(z) for x, _, z in _SUN_ROWS) // ONE + 1
 def sun_unreduced(c):
     total = 0
     for x, y, z in _SUN_ROWS:
         total += x * sine_and_cosine(y + (z * c.m >> BITS))[0]
     # of each sine SINE_SLACK and the angle's error: z r, less than a unit of y, and |c| + 1 of z c
-    waves = Interval(total, _SUN_REACH * c.r // 57 + _SUN_SIZE * (20 + (abs(c.m) >> BITS)))
-    aberration = wave("ABERRATION", c, cosine) - CONSTANT["MEAN_ABERRATION"]
-    return c * CONSTANT["SUN_RATE"] + CONSTANT["SUN_AT_2000"] + waves * SUN_UNIT + aberration + nutation(c)
+    terms = Interval(total, _SUN_REACH * c.r // 57 + _SUN_SIZE * (20 + (abs(c.m) >> BITS)))
+    aberration = periodic_term("ABERRATION", c, cosine) - CONSTANT["MEAN_ABERRATION"]
+    return c * CONSTANT["SUN_RATE"] + CONSTANT["SUN_AT_2000"] + terms * SUN_UNIT + aberration + nutation(c)
 
 def sun_event(longitude):
     names = {0: "the March equinox", 90: "the June solstice", 180: "the September equinox", 270: "the December solstice"}
@@ -192,7 +192,7 @@ def new_moon_dynamical(n):
     terms = _NEW_MOONS.sums([interval(0), *angles], polynomial(COEFFICIENTS["ECCENTRICITY_FACTOR"], c))[0] / 100000
     planets = sum((sine(interval(i + j * k)) * size for i, j, size in _PLANETS), interval(0))
     mean = polynomial(COEFFICIENTS["MEAN_NEW_MOON"], c) + NOON_2000
-    return mean + sine(node) * CONSTANT["NODE_TERM"] + terms + wave("NEW_MOON_WAVE", c) + planets
+    return mean + sine(node) * CONSTANT["NODE_TERM"] + terms + periodic_term("NEW_MOON_TERM", c) + planets
 
 def new_moon(run, n): return universal(run, new_moon_dynamical(n))
 
@@ -211,7 +211,7 @@ def moon_angles(c):
     return mean, angles, e, _MOON.sums(angles, e)
 def moon_unreduced(c):
     mean, angles, _, (terms, _) = moon_angles(c)
-    terms += wave("VENUS_WAVE", c) + wave("JUPITER_WAVE", c) + sine(mean - angles[3]) * CONSTANT["FLATTENING"]
+    terms += periodic_term("VENUS_TERM", c) + periodic_term("JUPITER_TERM", c) + sine(mean - angles[3]) * CONSTANT["FLATTENING"]
     return mean + terms * CONSTANT["MILLIONTH"] + nutation(c)
 def moon(run, t):
     seen = Seen("the moon at 0 degrees", "degrees", MOON_PACE, t, lambda u: moon_unreduced(centuries(SILENT, u)))
@@ -222,8 +222,8 @@ def distance(run, t):
 def latitude(run, t):
     c = centuries(run, t)
     mean, angles, e, _ = moon_angles(c)
-    anomaly, argument, venus = angles[2], angles[3], polynomial(WAVES["VENUS_WAVE"][1:], c)
-    terms = _LATITUDE.sums(angles, e)[0] + wave("LATITUDE_WAVE", c)
+    anomaly, argument, venus = angles[2], angles[3], polynomial(SINGLE_TERMS["VENUS_TERM"][1:], c)
+    terms = _LATITUDE.sums(angles, e)[0] + periodic_term("LATITUDE_TERM", c)
     for name, angle in (("VENUS_IN_LATITUDE", venus + argument), ("VENUS_IN_LATITUDE", venus - argument), ("FLATTENING_ALONE", mean),
                         ("FLATTENING_LESS_ANOMALY", mean - anomaly), ("FLATTENING_WITH_ANOMALY", mean + anomaly)):
         terms += sine(angle) * CONSTANT[name]

@@ -27,5 +27,5 @@ def numbers(row, *columns): return [number(row[column]) for column in columns if
 
 CONSTANT = {row["name"]: number(row["number"]) for row in rows("constants") if row["number"][-1].isdigit()}
 COEFFICIENTS = {row["name"]: [interval(a) for a in numbers(row, *list(row)[1:])] for row in rows("polynomials")}
-WAVES = {row["name"]: [interval(a) for a in numbers(row, "size", "phase", "rate", "square rate")] for row in rows("waves")}
+SINGLE_TERMS = {row["name"]: [interval(a) for a in numbers(row, "size", "phase", "rate", "square rate")] for row in rows("single-terms")}
 DEFINED = {(row["file"], row["definition"]): [number(cell) for cell in row["numbers"].split()] for row in rows("definitions")}

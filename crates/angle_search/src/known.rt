@@ -30,7 +30,7 @@ impl<F: Drop> Known<F> {
     }
 
     /// Keeps a linear model in place of the last, and that in place of the one before.
-    pub(crate) fn learn(&mut self, course: F) {
-        self.before = self.last.replace(course);
+    pub(crate) fn learn(&mut self, linear_model: F) {
+        self.before = self.last.replace(linear_model);
     }
 }

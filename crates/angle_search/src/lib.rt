@@ -7,7 +7,7 @@
 mod angular;
 mod bisection;
 mod known;
-mod stretches;
+mod narrowings;
 mod tries;
 
 pub use angular::Angular;

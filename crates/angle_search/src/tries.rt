@@ -11,14 +11,14 @@ ghost use Rattle.book_model.specs.programs.Bisection as spec;
 use crate::Angular;
 use crate::bisection::{has_passed, has_passed_at};
 use crate::known::Known;
-use crate::stretches::stretch_by;
+use crate::narrowings::stretch_by;
 use book_model::Fail;
 use encl_core::{Enclosure, Trail};
 
 /// Whether an angle has passed another at a number, by a linear model. Where it answers it has made the tests of its formula; a
 /// failure says nothing.
 fn has_passed_near<E: Enclosure, F: Angular<E>>(
-    course: &F,
+    linear_model: &F,
     target: E,
     x: E,
     trail: &mut Trail,
@@ -26,13 +26,13 @@ fn has_passed_near<E: Enclosure, F: Angular<E>>(
     ensures leads { IfOk result (λ b. Decides2 E.shown (spec.has_passed_at F.angle_of) target x
         trail.old.count trail.new.count (Ok b)) }
 {
-    let angle = course.near(x, trail)?;
+    let angle = linear_model.near(x, trail)?;
     has_passed(angle, target, trail)
 }
 
 /// The same, as a try: where it fails, no test has been made.
 fn tried<E: Enclosure, F: Angular<E>>(
-    course: &F,
+    linear_model: &F,
     target: E,
     x: E,
     trail: &mut Trail,
@@ -45,7 +45,7 @@ fn tried<E: Enclosure, F: Angular<E>>(
         |inner: &mut Trail| -> Result<bool, Fail>
             ensures { IfOk result (λ b. Decides2 E.shown (spec.has_passed_at F.angle_of) target x
                 inner.old.count inner.new.count (Ok b)) }
-        { has_passed_near(course, target, x, inner) },
+        { has_passed_near(linear_model, target, x, inner) },
     )
 }
 
@@ -62,14 +62,14 @@ fn learned<E: Enclosure, F: Angular<E>>(
         trail.old.count trail.new.count (Ok b)) }
     ensures back { IsNone result → trail.new.count ≡ trail.old.count }
 {
-    let Some(stretch) = stretch_by(f, x, fail) else {
+    let Some(interval_of_days) = stretch_by(f, x, fail) else {
         return None;
     };
-    let Some(course) = f.over(stretch, trail) else {
+    let Some(linear_model) = f.over(interval_of_days, trail) else {
         return None;
     };
-    let found = tried(&course, target, x, trail);
-    known.learn(course);
+    let found = tried(&linear_model, target, x, trail);
+    known.learn(linear_model);
     match found {
         Ok(passed) => Some(passed),
         Err(_) => None,

@@ -6,7 +6,7 @@ use Rattle.std.specs.declared.option.Option.{Option}
 use Rattle.std.specs.Io.KnownBytes.{Keeps}
 use Rattle.book_model.specs.declared.version.TheConstants.{WRITTEN}
 use Rattle.book_model.specs.lines.Outcomes.{LineOutcome, AreRight}
-use Rattle.byte_streams.proofs.Flow.{appends_none, appends_on, appends_kept, front_none, front_second}
+use Rattle.byte_streams.proofs.Flow.{appends_none, appends_on, appends_kept, prefix_none, prefix_second}
 use Rattle.answered_lines.specs.Below.{Answered, AnswerCutShort, Performs, answer_text}
 use Rattle.run_core.specs.Writers.WriteStop.{WriteStop}
 use Rattle.run_core.specs.Writers.WriteStop.TheVariants as stop
@@ -52,8 +52,8 @@ cut_on a b c ls ms h k = record {
   within = omega (arith, k.within, length-append ls ms);
   outcomes = h.outcomes ++ k.outcomes;
   right = rw (take_past ls ms k.count) (right-append ls (take k.count ms) h.outcomes k.outcomes h.right k.right);
-  front = rw (take_past ls ms k.count, answers_text-append ls (take k.count ms) h.outcomes k.outcomes h.right)
-      (front_second a b c (answers_text ls h.outcomes) (answers_text (take k.count ms) k.outcomes) h.written k.front);
+  prefix = rw (take_past ls ms k.count, answers_text-append ls (take k.count ms) h.outcomes k.outcomes h.right)
+      (prefix_second a b c (answers_text ls h.outcomes) (answers_text (take k.count ms) k.outcomes) h.written k.prefix);
 }
 
 -- a prefix of the answers to some of the lines
@@ -65,7 +65,7 @@ cut_first a b ls ms h =
       within = omega (arith, h.within, length-append ls ms);
       outcomes = h.outcomes;
       right = rw same h.right;
-      front = rw same h.front;
+      prefix = rw same h.prefix;
     }
 
 -- nothing is written, which is a prefix of any answers
@@ -75,11 +75,11 @@ cut_kept a b ls h = record {
   within = omega arith;
   outcomes = [];
   right = tt;
-  front = record { rest = []; wrote = record { front = []; appended = appends_kept a a b [] (appends_none a) h; whole = refl } };
+  prefix = record { rest = []; wrote = record { prefix = []; appended = appends_kept a a b [] (appends_none a) h; whole = refl } };
 }
 
 pub cut_none : (a : Option (List ℕ)) (ls : List (List ℕ)) → AnswersCut a a ls
-cut_none a ls = record { count = 0; within = omega arith; outcomes = []; right = tt; front = front_none a [] }
+cut_none a ls = record { count = 0; within = omega arith; outcomes = []; right = tt; prefix = prefix_none a [] }
 
 -- answers to the first of the lines
 pub cut_after : (a b : Option (List ℕ)) (ls ms : List (List ℕ)) → AnswersAll a b ls → AnswersCut a b (ls ++ ms)
@@ -100,7 +100,7 @@ one_cut a b l h = record {
   within = omega arith;
   outcomes = h.outcome ∷ [];
   right = (h.right, tt);
-  front = rw (append-nil (answer_text l h.outcome)) h.front;
+  prefix = rw (append-nil (answer_text l h.outcome)) h.prefix;
 }
 
 pub one_stopped : (a b : Option (List ℕ)) (l : List ℕ) → Keeps a b ⊎ AnswerCutShort (answer_text l) a b l → AnswersCut a b (l ∷ [])

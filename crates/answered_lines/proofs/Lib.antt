@@ -1,4 +1,4 @@
 pub mod LineLemmas
 pub mod AnswerLemmas
-pub mod FrontLemmas
+pub mod PrefixLemmas
 pub mod PieceLemmas

@@ -5,29 +5,29 @@ use Rattle.std.proofs.lemmas.List.{length-take, map-append, take_all, take-appen
 use Rattle.std.specs.Prelude.{if◌then◌else◌, nat_lt}
 use borrow.Author.Tests.{ltb-true, ltb-false}
 use Rattle.book_model.specs.lines.Lines.{onto_first, raw_lines}
-use Rattle.answered_lines.specs.Lines.{FEED, FRONT, ended_lines, begun_line, last_line, with_byte, kept_lines, kept_front}
+use Rattle.answered_lines.specs.Lines.{FEED, PREFIX, ended_lines, begun_line, last_line, with_byte, kept_lines, kept_prefix}
 
 -- ---- over bytes, and then more
-pub kept_lines-append : (kept xs ys : List ℕ) → kept_lines kept (xs ++ ys) ≡ kept_lines kept xs ++ kept_lines (kept_front kept xs) ys
+pub kept_lines-append : (kept xs ys : List ℕ) → kept_lines kept (xs ++ ys) ≡ kept_lines kept xs ++ kept_lines (kept_prefix kept xs) ys
 kept_lines-append kept [] ys = refl
 kept_lines-append kept (b ∷ xs) ys = by (b == FEED) (kept_lines-append [] xs ys) (kept_lines-append (with_byte kept b) xs ys)
   where
-    by : (t : Bool) → kept_lines [] (xs ++ ys) ≡ kept_lines [] xs ++ kept_lines (kept_front [] xs) ys
-        → kept_lines (with_byte kept b) (xs ++ ys) ≡ kept_lines (with_byte kept b) xs ++ kept_lines (kept_front (with_byte kept b) xs) ys
+    by : (t : Bool) → kept_lines [] (xs ++ ys) ≡ kept_lines [] xs ++ kept_lines (kept_prefix [] xs) ys
+        → kept_lines (with_byte kept b) (xs ++ ys) ≡ kept_lines (with_byte kept b) xs ++ kept_lines (kept_prefix (with_byte kept b) xs) ys
         → (if t then kept ∷ kept_lines [] (xs ++ ys) else kept_lines (with_byte kept b) (xs ++ ys))
         ≡ (if t then kept ∷ kept_lines [] xs else kept_lines (with_byte kept b) xs)
-        ++ kept_lines (if t then kept_front [] xs else kept_front (with_byte kept b) xs) ys
+        ++ kept_lines (if t then kept_prefix [] xs else kept_prefix (with_byte kept b) xs) ys
     by true ended begun = ap (λ ls. kept ∷ ls) ended
     by false ended begun = begun
 
-pub kept_front-append : (kept xs ys : List ℕ) → kept_front kept (xs ++ ys) ≡ kept_front (kept_front kept xs) ys
-kept_front-append kept [] ys = refl
-kept_front-append kept (b ∷ xs) ys = by (b == FEED) (kept_front-append [] xs ys) (kept_front-append (with_byte kept b) xs ys)
+pub kept_prefix-append : (kept xs ys : List ℕ) → kept_prefix kept (xs ++ ys) ≡ kept_prefix (kept_prefix kept xs) ys
+kept_prefix-append kept [] ys = refl
+kept_prefix-append kept (b ∷ xs) ys = by (b == FEED) (kept_prefix-append [] xs ys) (kept_prefix-append (with_byte kept b) xs ys)
   where
-    by : (t : Bool) → kept_front [] (xs ++ ys) ≡ kept_front (kept_front [] xs) ys
-        → kept_front (with_byte kept b) (xs ++ ys) ≡ kept_front (kept_front (with_byte kept b) xs) ys
-        → (if t then kept_front [] (xs ++ ys) else kept_front (with_byte kept b) (xs ++ ys))
-        ≡ kept_front (if t then kept_front [] xs else kept_front (with_byte kept b) xs) ys
+    by : (t : Bool) → kept_prefix [] (xs ++ ys) ≡ kept_prefix (kept_prefix [] xs) ys
+        → kept_prefix (with_byte kept b) (xs ++ ys) ≡ kept_prefix (kept_prefix (with_byte kept b) xs) ys
+        → (if t then kept_prefix [] (xs ++ ys) else kept_prefix (with_byte kept b) (xs ++ ys))
+        ≡ kept_prefix (if t then kept_prefix [] xs else kept_prefix (with_byte kept b) xs) ys
     by true ended begun = ended
     by false ended begun = begun
 
@@ -77,8 +77,8 @@ raw_split input = raw-ended [] input tt
 
 -- ---- what is kept is a prefix of each
 -- the prefix of bytes, with a byte more where it is short, is the prefix of them and the byte
-front_on : (n : ℕ) (bytes : List ℕ) (b : ℕ) → (if nat_lt (length (take n bytes)) n then take n bytes ++ b ∷ [] else take n bytes) ≡ take n (bytes ++ b ∷ [])
-front_on n bytes b = by (nat_lt (length (take n bytes)) n) refl
+prefix_on : (n : ℕ) (bytes : List ℕ) (b : ℕ) → (if nat_lt (length (take n bytes)) n then take n bytes ++ b ∷ [] else take n bytes) ≡ take n (bytes ++ b ∷ [])
+prefix_on n bytes b = by (nat_lt (length (take n bytes)) n) refl
   where
     by : (t : Bool) → nat_lt (length (take n bytes)) n ≡ t → (if t then take n bytes ++ b ∷ [] else take n bytes) ≡ take n (bytes ++ b ∷ [])
     by true e =
@@ -91,35 +91,35 @@ front_on n bytes b = by (nat_lt (length (take n bytes)) n) refl
         let long : n ≤ length bytes = omega (arith, length-take n bytes) in
         sym (take-append-le n bytes (b ∷ []) long)
 
-pub kept-ended : (begun bytes : List ℕ) → kept_lines (take FRONT begun) bytes ≡ map (take FRONT) (ended_lines begun bytes)
+pub kept-ended : (begun bytes : List ℕ) → kept_lines (take PREFIX begun) bytes ≡ map (take PREFIX) (ended_lines begun bytes)
 kept-ended begun [] = refl
 kept-ended begun (b ∷ bytes) = by (b == FEED) (kept-ended [] bytes) (kept-ended (begun ++ b ∷ []) bytes)
   where
-    by : (t : Bool) → kept_lines [] bytes ≡ map (take FRONT) (ended_lines [] bytes)
-        → kept_lines (take FRONT (begun ++ b ∷ [])) bytes ≡ map (take FRONT) (ended_lines (begun ++ b ∷ []) bytes)
-        → (if t then take FRONT begun ∷ kept_lines [] bytes else kept_lines (with_byte (take FRONT begun) b) bytes)
-        ≡ map (take FRONT) (if t then begun ∷ ended_lines [] bytes else ended_lines (begun ++ b ∷ []) bytes)
-    by true ended more = ap (λ ls. take FRONT begun ∷ ls) ended
-    by false ended more = ap (λ k. kept_lines k bytes) (front_on FRONT begun b) ∙ more
+    by : (t : Bool) → kept_lines [] bytes ≡ map (take PREFIX) (ended_lines [] bytes)
+        → kept_lines (take PREFIX (begun ++ b ∷ [])) bytes ≡ map (take PREFIX) (ended_lines (begun ++ b ∷ []) bytes)
+        → (if t then take PREFIX begun ∷ kept_lines [] bytes else kept_lines (with_byte (take PREFIX begun) b) bytes)
+        ≡ map (take PREFIX) (if t then begun ∷ ended_lines [] bytes else ended_lines (begun ++ b ∷ []) bytes)
+    by true ended more = ap (λ ls. take PREFIX begun ∷ ls) ended
+    by false ended more = ap (λ k. kept_lines k bytes) (prefix_on PREFIX begun b) ∙ more
 
-pub kept-begun : (begun bytes : List ℕ) → kept_front (take FRONT begun) bytes ≡ take FRONT (begun_line begun bytes)
+pub kept-begun : (begun bytes : List ℕ) → kept_prefix (take PREFIX begun) bytes ≡ take PREFIX (begun_line begun bytes)
 kept-begun begun [] = refl
 kept-begun begun (b ∷ bytes) = by (b == FEED) (kept-begun [] bytes) (kept-begun (begun ++ b ∷ []) bytes)
   where
-    by : (t : Bool) → kept_front [] bytes ≡ take FRONT (begun_line [] bytes)
-        → kept_front (take FRONT (begun ++ b ∷ [])) bytes ≡ take FRONT (begun_line (begun ++ b ∷ []) bytes)
-        → (if t then kept_front [] bytes else kept_front (with_byte (take FRONT begun) b) bytes)
-        ≡ take FRONT (if t then begun_line [] bytes else begun_line (begun ++ b ∷ []) bytes)
+    by : (t : Bool) → kept_prefix [] bytes ≡ take PREFIX (begun_line [] bytes)
+        → kept_prefix (take PREFIX (begun ++ b ∷ [])) bytes ≡ take PREFIX (begun_line (begun ++ b ∷ []) bytes)
+        → (if t then kept_prefix [] bytes else kept_prefix (with_byte (take PREFIX begun) b) bytes)
+        ≡ take PREFIX (if t then begun_line [] bytes else begun_line (begun ++ b ∷ []) bytes)
     by true ended more = ended
-    by false ended more = ap (λ k. kept_front k bytes) (front_on FRONT begun b) ∙ more
+    by false ended more = ap (λ k. kept_prefix k bytes) (prefix_on PREFIX begun b) ∙ more
 
-last-front : (begun : List ℕ) → last_line (take FRONT begun) ≡ map (take FRONT) (last_line begun)
-last-front [] = refl
-last-front (b ∷ begun) = refl
+last-prefix : (begun : List ℕ) → last_line (take PREFIX begun) ≡ map (take PREFIX) (last_line begun)
+last-prefix [] = refl
+last-prefix (b ∷ begun) = refl
 
 -- what is kept of the lines of an input
-pub kept_input : (input : List ℕ) → kept_lines [] input ++ last_line (kept_front [] input) ≡ map (take FRONT) (raw_lines input)
+pub kept_input : (input : List ℕ) → kept_lines [] input ++ last_line (kept_prefix [] input) ≡ map (take PREFIX) (raw_lines input)
 kept_input input =
-    let ended : kept_lines [] input ≡ map (take FRONT) (ended_lines [] input) = kept-ended [] input in
-    let begun : kept_front [] input ≡ take FRONT (begun_line [] input) = kept-begun [] input in
-    rw (ended, begun, last-front (begun_line [] input), ← map-append (take FRONT) (ended_lines [] input) (last_line (begun_line [] input)), ← raw_split input) refl
+    let ended : kept_lines [] input ≡ map (take PREFIX) (ended_lines [] input) = kept-ended [] input in
+    let begun : kept_prefix [] input ≡ take PREFIX (begun_line [] input) = kept-begun [] input in
+    rw (ended, begun, last-prefix (begun_line [] input), ← map-append (take PREFIX) (ended_lines [] input) (last_line (begun_line [] input)), ← raw_split input) refl

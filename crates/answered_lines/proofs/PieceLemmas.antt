@@ -6,55 +6,55 @@ use Rattle.std.specs.declared.option.Option.{Option}
 use Rattle.std.specs.Io.KnownBytes.{Consumes, IsAtEnd, Keeps}
 use Rattle.byte_streams.proofs.Flow.{consumes_none, consumes_on}
 use Rattle.book_model.specs.lines.Lines.{without_return}
-use Rattle.answered_lines.specs.Lines.{kept_lines, kept_front, last_line, plain_lines}
+use Rattle.answered_lines.specs.Lines.{kept_lines, kept_prefix, last_line, plain_lines}
 use Rattle.answered_lines.specs.Answers.{AnswersAll, AnswersCut, AnswersInput, AnswersEnded, InputCut}
 use Rattle.answered_lines.proofs.AnswerLemmas.{none_answered, all_on, cut_on, cut_first, cut_after}
-use Rattle.answered_lines.proofs.FrontLemmas.{ended_answered, input_answered, input_cut}
-use Rattle.answered_lines.proofs.LineLemmas.{kept_lines-append, kept_front-append}
+use Rattle.answered_lines.proofs.PrefixLemmas.{ended_answered, input_answered, input_cut}
+use Rattle.answered_lines.proofs.LineLemmas.{kept_lines-append, kept_prefix-append}
 
 plain-append : (ls ms : List (List ℕ)) → plain_lines (ls ++ ms) ≡ plain_lines ls ++ plain_lines ms
 plain-append ls ms = map-append without_return ls ms
 
 -- the lines that end in bytes and in more behind them
 plain_kept-append : (kept xs ys : List ℕ) → plain_lines (kept_lines kept (xs ++ ys))
-    ≡ plain_lines (kept_lines kept xs) ++ plain_lines (kept_lines (kept_front kept xs) ys)
-plain_kept-append kept xs ys = ap plain_lines (kept_lines-append kept xs ys) ∙ plain-append (kept_lines kept xs) (kept_lines (kept_front kept xs) ys)
+    ≡ plain_lines (kept_lines kept xs) ++ plain_lines (kept_lines (kept_prefix kept xs) ys)
+plain_kept-append kept xs ys = ap plain_lines (kept_lines-append kept xs ys) ∙ plain-append (kept_lines kept xs) (kept_lines (kept_prefix kept xs) ys)
 
 -- more bytes are taken, and the lines that end in them answered
-pub bytes_on : (a b c : Option (List ℕ)) (kept now xs ys : List ℕ) → now ≡ kept_front kept xs → AnswersAll a b (plain_lines (kept_lines kept xs))
+pub bytes_on : (a b c : Option (List ℕ)) (kept now xs ys : List ℕ) → now ≡ kept_prefix kept xs → AnswersAll a b (plain_lines (kept_lines kept xs))
     → AnswersAll b c (plain_lines (kept_lines now ys)) → AnswersAll a c (plain_lines (kept_lines kept (xs ++ ys)))
 bytes_on a b c kept now xs ys is h k =
     rw (plain_kept-append kept xs ys)
-    (all_on a b c (plain_lines (kept_lines kept xs)) (plain_lines (kept_lines (kept_front kept xs) ys)) h (rw is at k))
+    (all_on a b c (plain_lines (kept_lines kept xs)) (plain_lines (kept_lines (kept_prefix kept xs) ys)) h (rw is at k))
 
 -- or a prefix of their answers is written
-pub bytes_cut : (a b c : Option (List ℕ)) (kept now xs ys : List ℕ) → now ≡ kept_front kept xs → AnswersAll a b (plain_lines (kept_lines kept xs))
+pub bytes_cut : (a b c : Option (List ℕ)) (kept now xs ys : List ℕ) → now ≡ kept_prefix kept xs → AnswersAll a b (plain_lines (kept_lines kept xs))
     → AnswersCut b c (plain_lines (kept_lines now ys)) → AnswersCut a c (plain_lines (kept_lines kept (xs ++ ys)))
 bytes_cut a b c kept now xs ys is h k =
     rw (plain_kept-append kept xs ys)
-    (cut_on a b c (plain_lines (kept_lines kept xs)) (plain_lines (kept_lines (kept_front kept xs) ys)) h (rw is at k))
+    (cut_on a b c (plain_lines (kept_lines kept xs)) (plain_lines (kept_lines (kept_prefix kept xs) ys)) h (rw is at k))
 
 -- a prefix of the answers to what ends in bytes is one of what ends in these and more
 pub bytes_first : (a b : Option (List ℕ)) (kept xs ys : List ℕ) → AnswersCut a b (plain_lines (kept_lines kept xs))
     → AnswersCut a b (plain_lines (kept_lines kept (xs ++ ys)))
 bytes_first a b kept xs ys h =
-    rw (plain_kept-append kept xs ys) (cut_first a b (plain_lines (kept_lines kept xs)) (plain_lines (kept_lines (kept_front kept xs) ys)) h)
+    rw (plain_kept-append kept xs ys) (cut_first a b (plain_lines (kept_lines kept xs)) (plain_lines (kept_lines (kept_prefix kept xs) ys)) h)
 
 -- ---- byte by byte
 -- one byte more of a piece is taken
-pub byte_on : (a b c : Option (List ℕ)) (kept now piece : List ℕ) (i x d : ℕ) → i < length piece → x ≡ get_or piece i d → now ≡ kept_front kept (take i piece)
+pub byte_on : (a b c : Option (List ℕ)) (kept now piece : List ℕ) (i x d : ℕ) → i < length piece → x ≡ get_or piece i d → now ≡ kept_prefix kept (take i piece)
     → AnswersAll a b (plain_lines (kept_lines kept (take i piece))) → AnswersAll b c (plain_lines (kept_lines now (x ∷ [])))
     → AnswersAll a c (plain_lines (kept_lines kept (take (i + 1) piece)))
 byte_on a b c kept now piece i x d within byte is h k =
     rw (take_more piece i d within) (bytes_on a b c kept now (take i piece) (get_or piece i d ∷ []) is h (rw byte at k))
 
-pub front_on : (kept now new piece : List ℕ) (i x d : ℕ) → i < length piece → x ≡ get_or piece i d → now ≡ kept_front kept (take i piece)
-    → new ≡ kept_front now (x ∷ []) → new ≡ kept_front kept (take (i + 1) piece)
-front_on kept now new piece i x d within byte is then =
-    rw (take_more piece i d within, kept_front-append kept (take i piece) (get_or piece i d ∷ []), ← is, ← byte) then
+pub prefix_on : (kept now new piece : List ℕ) (i x d : ℕ) → i < length piece → x ≡ get_or piece i d → now ≡ kept_prefix kept (take i piece)
+    → new ≡ kept_prefix now (x ∷ []) → new ≡ kept_prefix kept (take (i + 1) piece)
+prefix_on kept now new piece i x d within byte is then =
+    rw (take_more piece i d within, kept_prefix-append kept (take i piece) (get_or piece i d ∷ []), ← is, ← byte) then
 
 -- a byte more of a piece stopped
-pub byte_cut : (a b c : Option (List ℕ)) (kept now piece : List ℕ) (i x d : ℕ) → i < length piece → x ≡ get_or piece i d → now ≡ kept_front kept (take i piece)
+pub byte_cut : (a b c : Option (List ℕ)) (kept now piece : List ℕ) (i x d : ℕ) → i < length piece → x ≡ get_or piece i d → now ≡ kept_prefix kept (take i piece)
     → AnswersAll a b (plain_lines (kept_lines kept (take i piece))) → AnswersCut b c (plain_lines (kept_lines now (x ∷ [])))
     → AnswersCut a c (plain_lines (kept_lines kept piece))
 byte_cut a b c kept now piece i x d within byte is h k =
@@ -69,15 +69,15 @@ pub whole_piece : (a b : Option (List ℕ)) (kept now piece : List ℕ) (i : ℕ
     → AnswersAll a b (plain_lines (kept_lines kept piece))
 whole_piece a b kept now piece i over h = rw (take_all i piece over) at h
 
-pub whole_front : (kept now piece : List ℕ) (i : ℕ) → length piece ≤ i → now ≡ kept_front kept (take i piece) → now ≡ kept_front kept piece
-whole_front kept now piece i over h = rw (take_all i piece over) at h
+pub whole_prefix : (kept now piece : List ℕ) (i : ℕ) → length piece ≤ i → now ≡ kept_prefix kept (take i piece) → now ≡ kept_prefix kept piece
+whole_prefix kept now piece i over h = rw (take_all i piece over) at h
 
 -- ---- piece by piece
 -- what was read of a source: the lines that ended are answered, and this is kept of the one that has begun
 pub record IsReading (left now old new : Option (List ℕ)) (kept : List ℕ) : Type 0 where
   pub taken : List ℕ
   pub read : Consumes left now taken
-  pub kept_is : kept ≡ kept_front [] taken
+  pub kept_is : kept ≡ kept_prefix [] taken
   pub answered : AnswersAll old new (plain_lines (kept_lines [] taken))
 
 -- nothing is read yet
@@ -86,11 +86,11 @@ reading_none left old = record { taken = []; read = consumes_none left; kept_is 
 
 -- a piece is read, and then answered
 pub reading_on : (left now next old new then : Option (List ℕ)) (kept more piece : List ℕ) → IsReading left now old new kept → Consumes now next piece
-    → AnswersAll new then (plain_lines (kept_lines kept piece)) → more ≡ kept_front kept piece → IsReading left next old then more
-reading_on left now next old new then kept more piece h read answered front = record {
+    → AnswersAll new then (plain_lines (kept_lines kept piece)) → more ≡ kept_prefix kept piece → IsReading left next old then more
+reading_on left now next old new then kept more piece h read answered prefix = record {
   taken = h.taken ++ piece;
   read = consumes_on left now next h.taken piece h.read read;
-  kept_is = rw (kept_front-append [] h.taken piece, ← h.kept_is) front;
+  kept_is = rw (kept_prefix-append [] h.taken piece, ← h.kept_is) prefix;
   answered = bytes_on old new then [] kept h.taken piece h.kept_is h.answered answered;
 }
 
@@ -121,7 +121,7 @@ reading_ended left now next old new then kept h read end last = record {
   read = let all : Consumes left next (h.taken ++ []) = consumes_on left now next h.taken [] h.read read in rw (append-nil h.taken) at all;
   end = end;
   answered = input_answered old then h.taken
-      (all_on old new then (plain_lines (kept_lines [] h.taken)) (plain_lines (last_line (kept_front [] h.taken))) h.answered (rw h.kept_is at last));
+      (all_on old new then (plain_lines (kept_lines [] h.taken)) (plain_lines (last_line (kept_prefix [] h.taken))) h.answered (rw h.kept_is at last));
 }
 
 -- or its answer was cut
@@ -131,7 +131,7 @@ last_cut left now next old new then kept h read last = record {
   input = h.taken;
   read = let all : Consumes left next (h.taken ++ []) = consumes_on left now next h.taken [] h.read read in rw (append-nil h.taken) at all;
   answered = input_cut old then h.taken
-      (cut_on old new then (plain_lines (kept_lines [] h.taken)) (plain_lines (last_line (kept_front [] h.taken))) h.answered (rw h.kept_is at last));
+      (cut_on old new then (plain_lines (kept_lines [] h.taken)) (plain_lines (last_line (kept_prefix [] h.taken))) h.answered (rw h.kept_is at last));
 }
 
 -- a piece is read, and its answers were cut
@@ -143,7 +143,7 @@ piece_cut left now next old new then kept piece h read cut =
       input = h.taken ++ piece;
       read = consumes_on left now next h.taken piece h.read read;
       answered = input_cut old then (h.taken ++ piece)
-          (cut_first old then (plain_lines (kept_lines [] (h.taken ++ piece))) (plain_lines (last_line (kept_front [] (h.taken ++ piece)))) ended);
+          (cut_first old then (plain_lines (kept_lines [] (h.taken ++ piece))) (plain_lines (last_line (kept_prefix [] (h.taken ++ piece)))) ended);
     }
 
 -- the reading stops, and all that was read is told
@@ -152,5 +152,5 @@ reading_stopped left now old new kept h = record {
   input = h.taken;
   read = h.read;
   answered = input_cut old new h.taken
-      (cut_after old new (plain_lines (kept_lines [] h.taken)) (plain_lines (last_line (kept_front [] h.taken))) h.answered);
+      (cut_after old new (plain_lines (kept_lines [] h.taken)) (plain_lines (last_line (kept_prefix [] h.taken))) h.answered);
 }

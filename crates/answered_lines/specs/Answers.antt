@@ -4,7 +4,7 @@ use Rattle.std.specs.declared.option.Option.{Option}
 use Rattle.std.specs.Io.KnownBytes.{Appends, Consumes, IsAtEnd}
 use Rattle.book_model.specs.declared.version.TheConstants.{WRITTEN}
 use Rattle.book_model.specs.lines.Outcomes.{LineOutcome, AreRight}
-use Rattle.byte_streams.specs.Stream.{AppendsFront}
+use Rattle.byte_streams.specs.Stream.{AppendsPrefix}
 use Rattle.answered_lines.specs.Below.{answer_text, lines_of}
 use Rattle.answered_lines.specs.Lines.{ended_lines, plain_lines}
 use Rattle.run_core.specs.Writers.WriteStop.{WriteStop}
@@ -30,7 +30,7 @@ pub record AnswersCut (old new : Option (List ℕ)) (lines : List (List ℕ)) : 
   pub within : count ≤ length lines
   pub outcomes : List LineOutcome
   pub right : AreRight WRITTEN (take count lines) outcomes
-  pub front : AppendsFront old new (answers_text (take count lines) outcomes)
+  pub prefix : AppendsPrefix old new (answers_text (take count lines) outcomes)
 
 -- the source was read to its end, and each line of its bytes is answered
 pub record AnswersInput (left now old new : Option (List ℕ)) : Type 0 where

@@ -1,7 +1,7 @@
 -- The lines that end in bytes as they come, and what is kept of one that has begun.
 use Rattle.std.specs.Prelude.{ℕ, ◌==◌, nat_lt, if◌then◌else◌, Bool, true, false, List, [], ◌∷◌, ◌++◌, length, map}
 pub use Rattle.book_model.specs.lines.Lines.{without_return}
-pub use Rattle.answered_lines.specs.declared.begun.TheConstants.{FRONT}
+pub use Rattle.answered_lines.specs.declared.begun.TheConstants.{PREFIX}
 
 -- the byte that ends a line
 abbrev pub FEED : ℕ
@@ -29,7 +29,7 @@ last_line (b ∷ bs) = (b ∷ bs) ∷ []
 
 -- the prefix of a line that is kept, with a byte more, where that may still tell what the line asks
 abbrev pub with_byte : List ℕ → ℕ → List ℕ
-with_byte kept b = if nat_lt (length kept) FRONT then kept ++ b ∷ [] else kept
+with_byte kept b = if nat_lt (length kept) PREFIX then kept ++ b ∷ [] else kept
 
 -- what was kept of the lines that line feeds end in bytes, where this is kept of a line that has begun before them
 abbrev pub kept_lines : (kept bytes : List ℕ) → List (List ℕ)
@@ -37,9 +37,9 @@ kept_lines kept [] = []
 kept_lines kept (b ∷ bs) = if b == FEED then kept ∷ kept_lines [] bs else kept_lines (with_byte kept b) bs
 
 -- what is kept of the line that has begun behind the last of them
-abbrev pub kept_front : (kept bytes : List ℕ) → List ℕ
-kept_front kept [] = kept
-kept_front kept (b ∷ bs) = if b == FEED then kept_front [] bs else kept_front (with_byte kept b) bs
+abbrev pub kept_prefix : (kept bytes : List ℕ) → List ℕ
+kept_prefix kept [] = kept
+kept_prefix kept (b ∷ bs) = if b == FEED then kept_prefix [] bs else kept_prefix (with_byte kept b) bs
 
 -- lines, each without one carriage return at its end
 abbrev pub plain_lines : List (List ℕ) → List (List ℕ)

@@ -7,7 +7,7 @@ use std::marker::Model;
 
 /// How many bytes of a line are kept: a line that is read has 200 at most, and a carriage return may follow them; with one byte
 /// more it is refused, whatever else it has.
-pub const FRONT: usize = 202;
+pub const PREFIX: usize = 202;
 
 /// The prefix that is kept of a line that has begun, as far as it can tell what the line asks. Contracts see its bytes.
 #[derive(Drop)]
@@ -44,7 +44,7 @@ impl BegunLine {
         ensures ok { OnOk result (self.new ≡ spec.with_byte self.old byte) }
         ensures err { OnErr result (self.new ≡ self.old) }
     {
-        if self.bytes.len() < FRONT {
+        if self.bytes.len() < PREFIX {
             self.bytes.push(byte)?;
         }
         Ok(())

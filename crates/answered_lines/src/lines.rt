@@ -38,7 +38,7 @@ fn answer_byte<K: Sink, E: Evaluator>(
 ) -> Result<(), WriteStop>
     ensures ok { OnOk result (spec.AnswersAll (K.written sink.old) (K.written sink.new)
         (lines.plain_lines (lines.kept_lines begun.old (byte ∷ [])))) }
-    ensures begun { OnOk result (begun.new ≡ lines.kept_front begun.old (byte ∷ [])) }
+    ensures begun { OnOk result (begun.new ≡ lines.kept_prefix begun.old (byte ∷ [])) }
     ensures err { OnErr result (spec.AnswersCut (K.written sink.old) (K.written sink.new)
         (lines.plain_lines (lines.kept_lines begun.old (byte ∷ [])))) }
     ensures fault { IsErrOf result WriteStop.Fault → Rose (K.faults sink.old) (K.faults sink.new) }
@@ -64,7 +64,7 @@ pub fn answer_piece<K: Sink, E: Evaluator>(
 ) -> Result<(), WriteStop>
     ensures ok { OnOk result (spec.AnswersAll (K.written sink.old) (K.written sink.new)
         (lines.plain_lines (lines.kept_lines begun.old piece.now))) }
-    ensures begun { OnOk result (begun.new ≡ lines.kept_front begun.old piece.now) }
+    ensures begun { OnOk result (begun.new ≡ lines.kept_prefix begun.old piece.now) }
     ensures err { OnErr result (spec.AnswersCut (K.written sink.old) (K.written sink.new)
         (lines.plain_lines (lines.kept_lines begun.old piece.now))) }
     ensures fault { IsErrOf result WriteStop.Fault → Rose (K.faults sink.old) (K.faults sink.new) }

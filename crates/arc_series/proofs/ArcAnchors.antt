@@ -32,55 +32,55 @@ anchored x a b lo hi w h k =
 
 half_series : arctan_series 28 half ⊆ between (at_64 (pos 8552788783625223583)) (at_64 (pos 8552788783625223590))
 unfolding arctan_series is_at_most lower upper alternating size arctan_term power plus times opposite
-half_series = record { ends = (record { cross = record { le = tt } }, record { cross = record { le = tt } }) }
+half_series = record { endpoints = (record { cross = record { le = tt } }, record { cross = record { le = tt } }) }
 
 two_quarters_series : arctan_series 28 (turned (whole (pos 3))) ⊆ between (at_64 (pos 8552788783625223583)) (at_64 (pos 8552788783625223590))
 unfolding arctan_series is_at_most lower upper alternating size arctan_term power plus times opposite reciprocal
-two_quarters_series = record { ends = (record { cross = record { le = tt } }, record { cross = record { le = tt } }) }
+two_quarters_series = record { endpoints = (record { cross = record { le = tt } }, record { cross = record { le = tt } }) }
 
 minus_half_series : arctan_series 28 minus_half ⊆ between (at_64 (neg_ℤ (pos 8552788783625223590))) (at_64 (neg_ℤ (pos 8552788783625223583)))
 unfolding arctan_series is_at_most negative lower upper alternating size arctan_term power plus times opposite
-minus_half_series = record { ends = (record { cross = record { le = tt } }, record { cross = record { le = tt } }) }
+minus_half_series = record { endpoints = (record { cross = record { le = tt } }, record { cross = record { le = tt } }) }
 
 third_series : arctan_series 28 (reciprocal (whole (pos 3))) ⊆ between (at_64 (pos 5935250132529022095)) (at_64 (pos 5935250132529022102))
 unfolding arctan_series is_at_most lower upper alternating size arctan_term power plus times opposite reciprocal
-third_series = record { ends = (record { cross = record { le = tt } }, record { cross = record { le = tt } }) }
+third_series = record { endpoints = (record { cross = record { le = tt } }, record { cross = record { le = tt } }) }
 
 minus_third_series : arctan_series 28 (turned half) ⊆ between (at_64 (neg_ℤ (pos 5935250132529022102))) (at_64 (neg_ℤ (pos 5935250132529022095)))
 unfolding arctan_series is_at_most negative lower upper alternating size arctan_term power plus times opposite reciprocal
-minus_third_series = record { ends = (record { cross = record { le = tt } }, record { cross = record { le = tt } }) }
+minus_third_series = record { endpoints = (record { cross = record { le = tt } }, record { cross = record { le = tt } }) }
 
 none_series : arctan_series 28 zero_F ⊆ between (at_64 (pos 0)) (at_64 (pos 0))
 unfolding arctan_series is_at_most lower upper alternating size arctan_term power plus times opposite
-none_series = record { ends = (record { cross = record { le = tt } }, record { cross = record { le = tt } }) }
+none_series = record { endpoints = (record { cross = record { le = tt } }, record { cross = record { le = tt } }) }
 
 turned_one_series : arctan_series 28 (turned one) ⊆ between (at_64 (pos 0)) (at_64 (pos 0))
 unfolding arctan_series is_at_most lower upper alternating size arctan_term power plus times opposite reciprocal
-turned_one_series = record { ends = (record { cross = record { le = tt } }, record { cross = record { le = tt } }) }
+turned_one_series = record { endpoints = (record { cross = record { le = tt } }, record { cross = record { le = tt } }) }
 
 half_degrees : product (between (at_64 (pos 8552788783625223583)) (at_64 (pos 8552788783625223590))) radian ⊆ between (units_of_56 (pos 1914213673314665422))
     (units_of_56 (pos 1914213673314665425))
 unfolding product least greatest smaller larger is_at_most times
-half_degrees = record { ends = (record { cross = record { le = tt } }, record { cross = record { le = tt } }) }
+half_degrees = record { endpoints = (record { cross = record { le = tt } }, record { cross = record { le = tt } }) }
 
 minus_half_degrees : product (between (at_64 (neg_ℤ (pos 8552788783625223590))) (at_64 (neg_ℤ (pos 8552788783625223583)))) radian ⊆ between
     (units_of_56 (neg_ℤ (pos 1914213673314665425))) (units_of_56 (neg_ℤ (pos 1914213673314665422)))
 unfolding product least greatest smaller larger is_at_most times
-minus_half_degrees = record { ends = (record { cross = record { le = tt } }, record { cross = record { le = tt } }) }
+minus_half_degrees = record { endpoints = (record { cross = record { le = tt } }, record { cross = record { le = tt } }) }
 
 third_degrees : product (between (at_64 (pos 5935250132529022095)) (at_64 (pos 5935250132529022102))) radian ⊆ between (units_of_56 (pos 1328378058392091695))
     (units_of_56 (pos 1328378058392091698))
 unfolding product least greatest smaller larger is_at_most times
-third_degrees = record { ends = (record { cross = record { le = tt } }, record { cross = record { le = tt } }) }
+third_degrees = record { endpoints = (record { cross = record { le = tt } }, record { cross = record { le = tt } }) }
 
 minus_third_degrees : product (between (at_64 (neg_ℤ (pos 5935250132529022102))) (at_64 (neg_ℤ (pos 5935250132529022095)))) radian ⊆ between
     (units_of_56 (neg_ℤ (pos 1328378058392091698))) (units_of_56 (neg_ℤ (pos 1328378058392091695)))
 unfolding product least greatest smaller larger is_at_most times
-minus_third_degrees = record { ends = (record { cross = record { le = tt } }, record { cross = record { le = tt } }) }
+minus_third_degrees = record { endpoints = (record { cross = record { le = tt } }, record { cross = record { le = tt } }) }
 
 none_degrees : product (between (at_64 (pos 0)) (at_64 (pos 0))) radian ⊆ between (units_of_56 (pos 0)) (units_of_56 (pos 0))
 unfolding product least greatest smaller larger is_at_most times
-none_degrees = record { ends = (record { cross = record { le = tt } }, record { cross = record { le = tt } }) }
+none_degrees = record { endpoints = (record { cross = record { le = tt } }, record { cross = record { le = tt } }) }
 
 -- ---- the positive pieces
 half_in : InHalf half
@@ -158,27 +158,27 @@ climb_whole : (d hi low : ℤ) → units_of_56 low ≤F plus (units_of_56 hi) (t
 unfolding plus times
 climb_whole d hi low h = omega (arith, ints, h.cross)
 
-climb_ends : (d lo hi low high : ℤ) {i j : Interval} → Climbs (units_of_56 d) i j → i ⊆ between (units_of_56 lo) (units_of_56 hi)
+climb_endpoints : (d lo hi low high : ℤ) {i j : Interval} → Climbs (units_of_56 d) i j → i ⊆ between (units_of_56 lo) (units_of_56 hi)
     → j ⊆ between (units_of_56 low) (units_of_56 high)
     → (low *ℤ pos 10) ≤ℤ (hi *ℤ pos 10 +ℤ d *ℤ pos 573)
-climb_ends d lo hi low high (climbing {b = b} {c = c} h) i j =
-    climb_whole d hi low (le_trans _ c _ j.ends.0 (le_trans c _ _ h (plus_mono b (units_of_56 hi) (times rate (units_of_56 d)) _ i.ends.1 (le_refl _))))
+climb_endpoints d lo hi low high (climbing {b = b} {c = c} h) i j =
+    climb_whole d hi low (le_trans _ c _ j.endpoints.0 (le_trans c _ _ h (plus_mono b (units_of_56 hi) (times rate (units_of_56 d)) _ i.endpoints.1 (le_refl _))))
 
 pub at_whole : (a b : ℤ) → units_of_56 a ≤F units_of_56 b → a ≤ℤ b
 at_whole a b h = omega (arith, ints, h.cross)
 
-rise_ends : (lo hi low high : ℤ) {i j : Interval} → Precedes i j → IsProper j → i ⊆ between (units_of_56 lo) (units_of_56 hi)
+rise_endpoints : (lo hi low high : ℤ) {i j : Interval} → Precedes i j → IsProper j → i ⊆ between (units_of_56 lo) (units_of_56 hi)
     → j ⊆ between (units_of_56 low) (units_of_56 high)
     → lo ≤ℤ high
-rise_ends lo hi low high (preceding {a = a} {c = c} {d = d} ac bd) p i j = at_whole lo high
-    (le_trans _ a _ i.ends.0 (le_trans a c _ ac (le_trans c d _ p j.ends.1)))
+rise_endpoints lo hi low high (preceding {a = a} {c = c} {d = d} ac bd) p i j = at_whole lo high
+    (le_trans _ a _ i.endpoints.0 (le_trans a c _ ac (le_trans c d _ p j.endpoints.1)))
 
 pub apart : (p : Piece) (x y : Fraction) (d lo hi low high : ℤ) → InPiece (piece_of p) x → InPiece (piece_of p) y → x ≤F y → y ≤F plus x (units_of_56 d)
     → (piece_of p).arc 40 x ⊆ between (units_of_56 lo) (units_of_56 hi) → (piece_of p).arc 40 y ⊆ between (units_of_56 low) (units_of_56 high)
     → AreApart d lo hi low high
 apart p x y d lo hi low high w v h k i j = record {
-  climb = climb_ends d lo hi low high (piece_climbs p x y (units_of_56 d) w v h k) i j;
-  rise = rise_ends lo hi low high ((piece_arc p).rises 40 x y w v h) ((piece_arc p).proper 40 y v) i j;
+  climb = climb_endpoints d lo hi low high (piece_climbs p x y (units_of_56 d) w v h k) i j;
+  rise = rise_endpoints lo hi low high ((piece_arc p).rises 40 x y w v h) ((piece_arc p).proper 40 y v) i j;
 }
 
 -- ---- two intervals that hold a third
@@ -189,14 +189,14 @@ pub record AreMeeting (lo hi low high : ℤ) : Type 0 where
 pub meeting : (i : Interval) (lo hi low high : ℤ) → IsProper i → i ⊆ between (units_of_56 lo) (units_of_56 hi)
     → i ⊆ between (units_of_56 low) (units_of_56 high)
     → AreMeeting lo hi low high
-meeting everything lo hi low high p h k = absurd h.ends
+meeting everything lo hi low high p h k = absurd h.endpoints
 meeting (between a b) lo hi low high p h k = record {
-  first = at_whole lo high (le_trans _ a _ h.ends.0 (le_trans a b _ p k.ends.1));
-  second = at_whole low hi (le_trans _ a _ k.ends.0 (le_trans a b _ p h.ends.1));
+  first = at_whole lo high (le_trans _ a _ h.endpoints.0 (le_trans a b _ p k.endpoints.1));
+  second = at_whole low hi (le_trans _ a _ k.endpoints.0 (le_trans a b _ p h.endpoints.1));
 }
 
 quarters_at : quarters ⊆ between (units_of_56 (neg_ℤ (pos (90 * 2 ^ 56)))) (units_of_56 (pos (90 * 2 ^ 56)))
-quarters_at = record { ends = (record { cross = record { le = tt } }, record { cross = record { le = tt } }) }
+quarters_at = record { endpoints = (record { cross = record { le = tt } }, record { cross = record { le = tt } }) }
 
 -- every arctangent meets -90..90
 pub in_quarters : (p : Piece) (x : Fraction) (lo hi : ℤ) → InPiece (piece_of p) x → (piece_of p).arc 40 x ⊆ between (units_of_56 lo) (units_of_56 hi)

@@ -71,7 +71,7 @@ abbrev pub half_turn : ℤ
 half_turn = HALF_TURN
 
 pub around_held : {E : Type 0} (shown : E → Interval) (r : E) → between (units_of_56 (neg_ℤ half_turn)) (units_of_56 half_turn) ⊆ shown r → all_around ⊆ shown r
-around_held shown r h = within_trans (record { ends = (record { cross = record { le = tt } }, record { cross = record { le = tt } }) }) h
+around_held shown r h = within_trans (record { endpoints = (record { cross = record { le = tt } }, record { cross = record { le = tt } }) }) h
 
 abbrev turn : Bound
 turn = bounded (neg_ℤ (pos (180 * 2 ^ 32))) (pos (180 * 2 ^ 32)) 0 (360 * 2 ^ 64)
@@ -105,7 +105,7 @@ from_spans : (k s : ℕ) (i : Interval) → IsNarrow 0 (bounded (neg_ℤ (pos (1
 unfolding IsNarrow
 from_spans k s everything h = absurd h
 from_spans k s (between a b) h = record {
-  ends = (record { cross = omega (arith, ints, h.above.cross) }, record { cross = omega (arith, ints, h.below.cross) });
+  endpoints = (record { cross = omega (arith, ints, h.above.cross) }, record { cross = omega (arith, ints, h.below.cross) });
 }
 
 -- endpoints within -180..180 stay there at every scale of which something is promised
@@ -151,19 +151,19 @@ high_moved hi high b e h k = by_split (split hi high)
     by_split (inl l) = le_trans b (units_of_56 hi) _ h (record { cross = omega (arith, ints, l) })
     by_split (inr l) = le_trans b (whole (pos 180)) _ k (record { cross = omega (arith, ints, clamps, e, l) })
 
-moved_ends : (lo hi low high : ℤ) (i : Interval) → low ≡ moved lo → high ≡ moved hi → AreWithin i (between (units_of_56 lo) (units_of_56 hi))
+moved_endpoints : (lo hi low high : ℤ) (i : Interval) → low ≡ moved lo → high ≡ moved hi → AreWithin i (between (units_of_56 lo) (units_of_56 hi))
     → AreWithin i all_around
     → i ⊆ between (units_of_56 low) (units_of_56 high)
-moved_ends lo hi low high everything e f h k = absurd h
-moved_ends lo hi low high (between a b) e f h k = record { ends = (low_moved lo low a e h.0 k.0, high_moved hi high b f h.1 k.1) }
+moved_endpoints lo hi low high everything e f h k = absurd h
+moved_endpoints lo hi low high (between a b) e f h k = record { endpoints = (low_moved lo low a e h.0 k.0, high_moved hi high b f h.1 k.1) }
 
 pub moved_held : {E : Type 0} (shown : E → Interval) (lo hi low high : ℤ) (x r : E) → low ≡ moved lo → high ≡ moved hi
     → shown x ⊆ between (units_of_56 lo) (units_of_56 hi) → between (units_of_56 low) (units_of_56 high) ⊆ shown r
     → (i : Interval) → i ⊆ shown x → i ⊆ all_around → i ⊆ shown r
-moved_held shown lo hi low high x r e f h g i p q = let k = within_trans p h in within_trans (moved_ends lo hi low high i e f k.ends q.ends) g
+moved_held shown lo hi low high x r e f h g i p q = let k = within_trans p h in within_trans (moved_endpoints lo hi low high i e f k.endpoints q.endpoints) g
 
 pub not_all : (lo hi : ℤ) (i j : Interval) → everything ⊆ i → i ⊆ between (units_of_56 lo) (units_of_56 hi) → all_around ⊆ j
-not_all lo hi i j h k = let m = within_trans h k in absurd m.ends
+not_all lo hi i j h k = let m = within_trans h k in absurd m.endpoints
 
 -- ---- the arctangent of two numbers
 abbrev less_arctangent : ℕ → Fraction → Interval → Interval → Interval
@@ -231,7 +231,7 @@ upper_held shown w a b y e r lo hi s h p k f =
     record {
       deep =
           p.deep;
-      inside = upper_by shown w.depth (value w a) (value w b) lo hi e r (value_proper w a) (value_proper w b) s (within_trans i h).ends k.inside f;
+      inside = upper_by shown w.depth (value w a) (value w b) lo hi e r (value_proper w a) (value_proper w b) s (within_trans i h).endpoints k.inside f;
     }
 
 pub lower_held : {E : Type 0} (shown : E → Interval) (w : World) (a b : Expression) (y e r : E) (lo hi : ℤ) → hi <ℤ pos 0
@@ -244,7 +244,7 @@ lower_held shown w a b y e r lo hi s h p k f =
     record {
       deep =
           p.deep;
-      inside = lower_by shown w.depth (value w a) (value w b) lo hi e r (value_proper w a) (value_proper w b) s (within_trans i h).ends k.inside f;
+      inside = lower_by shown w.depth (value w a) (value w b) lo hi e r (value_proper w a) (value_proper w b) s (within_trans i h).endpoints k.inside f;
     }
 
 pub somewhere_held : {E : Type 0} (shown : E → Interval) (w : World) (a b : Expression) (y r : E) → all_around ⊆ shown r → Within shown w a y
@@ -267,7 +267,7 @@ sign_below everything lo hi h s = absurd h
 sign_below (between a b) lo hi h s = either _ _ (negative_end hi b s h.1)
 
 pub sure_above : (i j : Interval) (lo hi : ℤ) → i ⊆ between (units_of_56 lo) (units_of_56 hi) → pos 0 <ℤ lo → has_sign i ≡ false → all_around ⊆ j
-sure_above i j lo hi h s e = let t = sign_above i lo hi h.ends s in absurd (cc)
+sure_above i j lo hi h s e = let t = sign_above i lo hi h.endpoints s in absurd (cc)
 
 pub sure_below : (i j : Interval) (lo hi : ℤ) → i ⊆ between (units_of_56 lo) (units_of_56 hi) → hi <ℤ pos 0 → has_sign i ≡ false → all_around ⊆ j
-sure_below i j lo hi h s e = let t = sign_below i lo hi h.ends s in absurd (cc)
+sure_below i j lo hi h s e = let t = sign_below i lo hi h.endpoints s in absurd (cc)

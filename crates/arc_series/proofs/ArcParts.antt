@@ -19,7 +19,7 @@ use Rattle.arc_series.proofs.HeldArcs.{Holds_arcs}
 use Rattle.arc_series.proofs.ArcSlopes.{piece_arc}
 use Rattle.arc_series.proofs.ArcAnchors.{near_half, near_minus_half, above_half, above_three, beyond_three, below_half, below_three, far_below_three}
 use Rattle.arc_series.proofs.ArcAnchors.{AreApart, apart, AreMeeting, meeting}
-use Rattle.arc_series.proofs.ArcRates.{ends_rated}
+use Rattle.arc_series.proofs.ArcRates.{endpoints_rated}
 use Rattle.arc_series.proofs.ArcRanges.{in_piece, ranged, from_lower, from_lesser, up_to_greater}
 
 -- ---- the endpoints of a part
@@ -65,7 +65,7 @@ part_rated : (p : Piece) (s : ℕ) (top k m a b c d lo hi : ℤ) → IsRate s to
     → ((hi -ℤ lo) *ℤ pos (10 * 2 ^ 60)) ≤ℤ ((m *ℤ pos s -ℤ k *ℤ pos s) *ℤ pos 573 +ℤ pos (80 * 2 ^ 60))
 part_rated p s top k m a b c d lo hi r l h g =
     part_slow (k *ℤ pos s) (m *ℤ pos s) a b c d lo hi (in_order k m s h.order) h.low_thin h.high_thin (part_apart p k m a b c d h).rise
-    (ends_rated p s top k m a b c d (in_piece p k h.from (omega (arith, ints, h.order, h.to))) (in_piece p m (omega (arith, ints, h.order, h.from)) h.to) r
+    (endpoints_rated p s top k m a b c d (in_piece p k h.from (omega (arith, ints, h.order, h.to))) (in_piece p m (omega (arith, ints, h.order, h.from)) h.to) r
     h.order l
     (h.low_held 40 (units_of_56 k) (omega arith) (same_refl (units_of_56 k))) (h.high_held 40 (units_of_56 m) (omega arith) (same_refl (units_of_56 m)))) g
 
@@ -164,7 +164,7 @@ record IsPlaced (p : Piece) (lo hi k m : ℤ) : Type 0 where
   begin : int_max (first_edge p).place lo ≡ k
   end : int_min (last_edge p).place hi ≡ m
   begins : lo ≤ℤ (first_edge p).place → k ≡ (first_edge p).place
-  ends : (last_edge p).place ≤ℤ hi → m ≡ (last_edge p).place
+  endpoints : (last_edge p).place ≤ℤ hi → m ≡ (last_edge p).place
 
 -- two endpoints that meet a piece, and the part that they have in common with it
 pub record AreCommon (p : Piece) (lo hi k m : ℤ) : Type 0 where
@@ -183,7 +183,7 @@ placed FarBelow lo hi k m c = record {
   begin = omega (arith, ints, clamps, c.least, c.begin);
   end = omega (arith, ints, clamps, c.end);
   begins = λ h. absurd (omega (arith, ints, c.least, h));
-  ends = λ h. omega (arith, ints, clamps, c.end, h);
+  endpoints = λ h. omega (arith, ints, clamps, c.end, h);
 }
 placed Below lo hi k m c = record {
   from = c.begun;
@@ -191,7 +191,7 @@ placed Below lo hi k m c = record {
   begin = omega (arith, ints, clamps, c.begin);
   end = omega (arith, ints, clamps, c.end);
   begins = λ h. omega (arith, ints, clamps, c.begin, h);
-  ends = λ h. omega (arith, ints, clamps, c.end, h);
+  endpoints = λ h. omega (arith, ints, clamps, c.end, h);
 }
 placed Near lo hi k m c = record {
   from = c.begun;
@@ -199,7 +199,7 @@ placed Near lo hi k m c = record {
   begin = omega (arith, ints, clamps, c.begin);
   end = omega (arith, ints, clamps, c.end);
   begins = λ h. omega (arith, ints, clamps, c.begin, h);
-  ends = λ h. omega (arith, ints, clamps, c.end, h);
+  endpoints = λ h. omega (arith, ints, clamps, c.end, h);
 }
 placed Above lo hi k m c = record {
   from = c.begun;
@@ -207,7 +207,7 @@ placed Above lo hi k m c = record {
   begin = omega (arith, ints, clamps, c.begin);
   end = omega (arith, ints, clamps, c.end);
   begins = λ h. omega (arith, ints, clamps, c.begin, h);
-  ends = λ h. omega (arith, ints, clamps, c.end, h);
+  endpoints = λ h. omega (arith, ints, clamps, c.end, h);
 }
 placed FarAbove lo hi k m c = record {
   from = c.begun;
@@ -215,7 +215,7 @@ placed FarAbove lo hi k m c = record {
   begin = omega (arith, ints, clamps, c.begin);
   end = omega (arith, ints, clamps, c.most, c.end);
   begins = λ h. omega (arith, ints, clamps, c.begin, h);
-  ends = λ h. absurd (omega (arith, ints, c.most, h));
+  endpoints = λ h. absurd (omega (arith, ints, c.most, h));
 }
 
 common_from : (p : Piece) (lo hi k m : ℤ) → AreCommon p lo hi k m → lo ≤ℤ k
@@ -251,7 +251,7 @@ part_reaches p lo hi k m a b c d r s h g =
           let f = at_first_edge p k a b (w.begins e) (omega (arith, ints, l, s.least)) h.low_held in
           record { low = joined_low (first_edge p).arc a c r.lo g.low f.0; high = joined_high (first_edge p).arc b d r.hi g.high f.1 };
       at_last = λ e.
-          let f = at_last_edge p m c d (w.ends e) (omega (arith, ints, u, s.most)) h.high_held in
+          let f = at_last_edge p m c d (w.endpoints e) (omega (arith, ints, u, s.most)) h.high_held in
           record { low = joined_low_second (last_edge p).arc a c r.lo g.low f.0; high = joined_high_second (last_edge p).arc b d r.hi g.high f.1 };
       above = part_above p k m a b c d lo r.lo r.hi l h g;
       below = part_below p k m a b c d hi r.lo r.hi u h g;
@@ -267,11 +267,11 @@ join_narrow : (f e l v lo hi a b c d low high : ℤ) (j k : ℕ) → lo ≤ℤ e
 join_narrow f e l v lo hi a b c d low high j k p q x y fe el al vb cl vd m n h =
     let s : int_min e hi ≡ e = omega (arith, ints, clamps, q) in
     let t : int_max e lo ≡ e = omega (arith, ints, clamps, p) in
-    by_ends (int_max f lo) (int_min l hi) (rw s at m) (rw t at n)
+    by_endpoints (int_max f lo) (int_min l hi) (rw s at m) (rw t at n)
   where
-    by_ends : (from to : ℤ) → ((b -ℤ a) *ℤ pos 10) ≤ℤ ((e -ℤ from) *ℤ pos 573 +ℤ pos j) → ((d -ℤ c) *ℤ pos 10) ≤ℤ ((to -ℤ e) *ℤ pos 573 +ℤ pos k)
+    by_endpoints : (from to : ℤ) → ((b -ℤ a) *ℤ pos 10) ≤ℤ ((e -ℤ from) *ℤ pos 573 +ℤ pos j) → ((d -ℤ c) *ℤ pos 10) ≤ℤ ((to -ℤ e) *ℤ pos 573 +ℤ pos k)
         → ((high -ℤ low) *ℤ pos 10) ≤ℤ ((to -ℤ from) *ℤ pos 573 +ℤ pos (j + k + 40))
-    by_ends from to m n = omega (arith, ints, clamps, x, y, al, vb, cl, vd, m, n, h.low, h.high)
+    by_endpoints from to m n = omega (arith, ints, clamps, x, y, al, vb, cl, vd, m, n, h.low, h.high)
 
 join_slow : (e v lo hi a b c d low high fs ls : ℤ) (s j k : ℕ) → lo ≤ℤ e → e ≤ℤ hi → a ≤ℤ b → c ≤ℤ d → a ≤ℤ (v +ℤ pos 2) → v ≤ℤ (b +ℤ pos 2)
     → c ≤ℤ (v +ℤ pos 2) → v ≤ℤ (d +ℤ pos 2)
@@ -281,12 +281,12 @@ join_slow : (e v lo hi a b c d low high fs ls : ℤ) (s j k : ℕ) → lo ≤ℤ
 join_slow e v lo hi a b c d low high fs ls s j k p q x y al vb cl vd m n h =
     let g : int_min e hi ≡ e = omega (arith, ints, clamps, q) in
     let t : int_max e lo ≡ e = omega (arith, ints, clamps, p) in
-    by_ends (e *ℤ pos s) (rw g at m) (rw t at n)
+    by_endpoints (e *ℤ pos s) (rw g at m) (rw t at n)
   where
-    by_ends : (es : ℤ) → ((b -ℤ a) *ℤ pos (10 * 2 ^ 60)) ≤ℤ ((es -ℤ fs) *ℤ pos 573 +ℤ pos (j * 2 ^ 60))
+    by_endpoints : (es : ℤ) → ((b -ℤ a) *ℤ pos (10 * 2 ^ 60)) ≤ℤ ((es -ℤ fs) *ℤ pos 573 +ℤ pos (j * 2 ^ 60))
         → ((d -ℤ c) *ℤ pos (10 * 2 ^ 60)) ≤ℤ ((ls -ℤ es) *ℤ pos 573 +ℤ pos (k * 2 ^ 60))
         → ((high -ℤ low) *ℤ pos (10 * 2 ^ 60)) ≤ℤ ((ls -ℤ fs) *ℤ pos 573 +ℤ pos ((j + k + 40) * 2 ^ 60))
-    by_ends es m n = omega (arith, ints, clamps, x, y, al, vb, cl, vd, m, n, h.low, h.high)
+    by_endpoints es m n = omega (arith, ints, clamps, x, y, al, vb, cl, vd, m, n, h.low, h.high)
 
 pub both_reach : (f e l : Edge) (j k : ℕ) (lo hi : ℤ) (x y r : Span) → f.place ≤ℤ e.place → e.place ≤ℤ l.place → IsReach f e j lo hi x
     → IsReach e l k lo hi y → IsHull x.lo x.hi y.lo y.hi r.lo r.hi → IsReach f l (j + k + 40) lo hi r

@@ -141,11 +141,11 @@ near_ranged k lo hi g l t h = by_sign (split (pos 0) k)
     w : InPiece (piece_of Near) (units_of_56 k)
     w = in_piece Near k g l
 
-    by_ends : AreApart (k -ℤ neg_ℤ (pos (2 ^ 55))) (neg_ℤ (pos 1914213673314665425)) (neg_ℤ (pos 1914213673314665422)) lo hi
+    by_endpoints : AreApart (k -ℤ neg_ℤ (pos (2 ^ 55))) (neg_ℤ (pos 1914213673314665425)) (neg_ℤ (pos 1914213673314665422)) lo hi
         → AreApart (pos (2 ^ 55) -ℤ k) lo hi (pos 1914213673314665422) (pos 1914213673314665425)
         → int_min (pos 0) (k *ℤ pos 573) ≤ℤ ((lo +ℤ pos 10) *ℤ pos 10) → int_min (pos 0) (neg_ℤ k *ℤ pos 573) ≤ℤ ((neg_ℤ hi +ℤ pos 10) *ℤ pos 10)
         → IsRanged k lo hi
-    by_ends a b m n = record {
+    by_endpoints a b m n = record {
       above = record {
         quarter = omega (arith, ints, a.rise, t.thin);
         minus_one = omega (arith, ints, clamps, a.rise, t.thin);
@@ -163,11 +163,11 @@ near_ranged k lo hi g l t h = by_sign (split (pos 0) k)
     by_sign : (pos 0 ≤ℤ k) ⊎ ((k +ℤ pos 1) ≤ℤ pos 0) → IsRanged k lo hi
     by_sign (inl s) =
         let o = near_from_none k lo hi w s h in
-        by_ends (near_from_half k lo hi w g h) (near_to_half k lo hi w l h) (omega (arith, ints, clamps, o.rise, s, t.thin))
+        by_endpoints (near_from_half k lo hi w g h) (near_to_half k lo hi w l h) (omega (arith, ints, clamps, o.rise, s, t.thin))
         (omega (arith, ints, clamps, o.climb, s, t.thin))
     by_sign (inr s) =
         let o = near_to_none k lo hi w (omega (arith, ints, s)) h in
-        by_ends (near_from_half k lo hi w g h) (near_to_half k lo hi w l h) (omega (arith, ints, clamps, o.climb, s, t.thin))
+        by_endpoints (near_from_half k lo hi w g h) (near_to_half k lo hi w l h) (omega (arith, ints, clamps, o.climb, s, t.thin))
         (omega (arith, ints, clamps, o.rise, s, t.thin))
 
 -- what is known of the arctangent of a number from 1/2 to 3

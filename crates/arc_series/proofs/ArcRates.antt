@@ -214,20 +214,20 @@ climb_whole s k m b c h =
     climb_of (m *ℤ pos s -ℤ k *ℤ pos s) b c (subst (λ z. units_of_56 c ≤F plus (units_of_56 b) (times rate (record { num = z; below = 2 ^ 172 - 1 })))
     (product_of s k m) h)
 
-climb_ends : (s : ℕ) (k m a b c d : ℤ) {i j : Interval} → Climbs (risen (at_60 s) (units_of_56 k) (units_of_56 m)) i j
+climb_endpoints : (s : ℕ) (k m a b c d : ℤ) {i j : Interval} → Climbs (risen (at_60 s) (units_of_56 k) (units_of_56 m)) i j
     → i ⊆ between (units_of_56 a) (units_of_56 b)
     → j ⊆ between (units_of_56 c) (units_of_56 d)
     → (c *ℤ pos (10 * 2 ^ 60)) ≤ℤ (b *ℤ pos (10 * 2 ^ 60) +ℤ (m *ℤ pos s -ℤ k *ℤ pos s) *ℤ pos 573)
-climb_ends s k m a b c d (climbing {b = e} {c = f} h) i j =
-    climb_whole s k m b c (le_trans _ f _ j.ends.0 (le_trans f _ _ h
-    (plus_mono e (units_of_56 b) (times rate (risen (at_60 s) (units_of_56 k) (units_of_56 m))) _ i.ends.1 (le_refl _))))
+climb_endpoints s k m a b c d (climbing {b = e} {c = f} h) i j =
+    climb_whole s k m b c (le_trans _ f _ j.endpoints.0 (le_trans f _ _ h
+    (plus_mono e (units_of_56 b) (times rate (risen (at_60 s) (units_of_56 k) (units_of_56 m))) _ i.endpoints.1 (le_refl _))))
 
 -- endpoints that hold the arctangents of two numbers of a piece climb at a rate
-pub ends_rated : (p : Piece) (s : ℕ) (top k m a b c d : ℤ) → InPiece (piece_of p) (units_of_56 k) → InPiece (piece_of p) (units_of_56 m) → IsRate s top → k ≤ℤ m
+pub endpoints_rated : (p : Piece) (s : ℕ) (top k m a b c d : ℤ) → InPiece (piece_of p) (units_of_56 k) → InPiece (piece_of p) (units_of_56 m) → IsRate s top → k ≤ℤ m
     → m ≤ℤ top
     → (piece_of p).arc 40 (units_of_56 k) ⊆ between (units_of_56 a) (units_of_56 b)
     → (piece_of p).arc 40 (units_of_56 m) ⊆ between (units_of_56 c) (units_of_56 d)
     → (c *ℤ pos (10 * 2 ^ 60)) ≤ℤ (b *ℤ pos (10 * 2 ^ 60) +ℤ (m *ℤ pos s -ℤ k *ℤ pos s) *ℤ pos 573)
-ends_rated p s top k m a b c d w v r h l i j =
-    climb_ends s k m a b c d (piece_rated p (at_60 s) (units_of_56 top) (units_of_56 k) (units_of_56 m) w v (rated s top r)
+endpoints_rated p s top k m a b c d w v r h l i j =
+    climb_endpoints s k m a b c d (piece_rated p (at_60 s) (units_of_56 top) (units_of_56 k) (units_of_56 m) w v (rated s top r)
     (record { cross = omega (arith, ints, h) }) (record { cross = omega (arith, ints, l) })) i j

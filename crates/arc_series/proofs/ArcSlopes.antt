@@ -103,10 +103,10 @@ radian_high = record { cross = record { le = tt } }
 
 product_climbs : (e : Fraction) (i j d : Interval) → zero_F ≤F e → IsProper d → d ⊆ radian → IsSlow e i j → Climbs e (product i d) (product j d)
 unfolding product
-product_climbs e i j everything n o h s = absurd h.ends
+product_climbs e i j everything n o h s = absurd h.endpoints
 product_climbs e i j (between p q) n o h (slow {a = a} {b = b} {c = c} {d = d} k) =
-    let p0 = le_trans zero_F _ p radian_low h.ends.0 in
-    let pr = le_trans p q rate o (le_trans q _ rate h.ends.1 radian_high) in
+    let p0 = le_trans zero_F _ p radian_low h.endpoints.0 in
+    let pr = le_trans p q rate o (le_trans q _ rate h.endpoints.1 radian_high) in
     climbing
     (le_trans _ (times c p) _ ((least_below (times c p) (times c q) (times d p) (times d q)).0)
     (le_by (a ∷ c ∷ e ∷ p ∷ rate ∷ greatest (times a p) (times a q) (times b p) (times b q) ∷ [])

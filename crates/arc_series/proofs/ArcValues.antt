@@ -73,15 +73,15 @@ left_out x w =
 abbrev around : ℕ → Interval
 around s = between (at_64 (pos s -ℤ pos 4)) (at_64 (pos s +ℤ pos 6))
 
-ends_near : (q t s : ℕ) (x : Fraction) → IsUpTo 1 2 x → t ≤ 2 ^ 64 → IsHigh s q t → IsNumber q x → IsWithinUnits 4 t (nested (times x x) 0 28)
+endpoints_near : (q t s : ℕ) (x : Fraction) → IsUpTo 1 2 x → t ≤ 2 ^ 64 → IsHigh s q t → IsNumber q x → IsWithinUnits 4 t (nested (times x x) 0 28)
     → arctan_at 28 x ⊆ around s
 unfolding lower upper power
-ends_near q t s x w l p g n =
+endpoints_near q t s x w l p g n =
     let ρ = x ∷ nested (times x x) 0 28 ∷ alternating (arctan_term x) 28 ∷ size (arctan_term x 29) ∷ unit ∷ whole (pos s) ∷ [] in
     let c = at 2 ≗ (at 0 ⊗ lit (pos 1)) ⊗ at 1 in
     let d = lit (pos 2) ⊗ at 3 ≼ lit (pos 2) ⊗ at 4 in
     record {
-      ends = (
+      endpoints = (
         le_trans _ _ _ (le_of_same (at_less (pos s) (pos 4)))
             (le_by ρ (c ∷ ((at 5 ⊖ lit (pos 2)) ⊗ at 4 ≼ at 0 ⊗ at 1) ∷ d ∷ []) ((at 5 ⊖ lit (pos 4)) ⊗ at 4) (at 2 ⊖ lit (pos 2) ⊗ at 3)
             (known 1 ⊞ known 2 ⊞ multiple 0 (lit (negsuc 0))) refl
@@ -113,7 +113,7 @@ number_up_to q x g =
 
 computed_near : (q w t s : ℕ) (x : Fraction) → IsComputed q w t s → IsNumber q x → arctan_at 28 x ⊆ around s
 computed_near q w t s x c g =
-    ends_near q t s x (number_up_to q x g) (omega (arith, c.below)) (high_is s q t c.radians) g
+    endpoints_near q t s x (number_up_to q x g) (omega (arith, c.below)) (high_is s q t c.radians) g
     (c.sum (times x x) (square_near w q x (omega (arith, c.small)) (high_is w q q c.square) g))
 
 above_minus_half : (x : Fraction) → zero_F ≤F x → minus_half ≤F x
@@ -167,7 +167,7 @@ at_72 n = record { num = pos n; below = 2 ^ 72 - 1 }
 
 pi_at_16 : pi_at 16 ⊆ between (at_72 14835751850141947581203) (at_72 14835751850141947581204)
 unfolding pi_at sum scaled negative lower upper alternating size arctan_term power plus times opposite
-pi_at_16 = record { ends = (record { cross = record { le = tt } }, record { cross = record { le = tt } }) }
+pi_at_16 = record { endpoints = (record { cross = record { le = tt } }, record { cross = record { le = tt } }) }
 
 -- a number in units of 2^-58
 abbrev pub at_58 : ℤ → Fraction
@@ -178,7 +178,7 @@ radian = between (at_58 (pos 16514384080961256899)) (at_58 (pos 1651438408096125
 
 by_pi : quotient (only (whole (pos 180))) (between (at_72 14835751850141947581203) (at_72 14835751850141947581204)) ⊆ radian
 unfolding quotient reciprocal product least greatest smaller larger is_at_most times
-by_pi = record { ends = (record { cross = record { le = tt } }, record { cross = record { le = tt } }) }
+by_pi = record { endpoints = (record { cross = record { le = tt } }, record { cross = record { le = tt } }) }
 
 pub radian_near : (n : ℕ) → 40 ≤ n → radian_at n ⊆ radian
 unfolding radian_at
@@ -338,7 +338,7 @@ product_held s d lo hi l a =
     let e = corner s d lo hi _ _ l a k.1.0 in
     let f = corner s d lo hi _ _ l a k.1.1.0 in
     let g = corner s d lo hi _ _ l a k.1.1.1 in
-    record { ends = (least_is _ _ _ _ _ c.0 e.0 f.0 g.0, greatest_is _ _ _ _ _ c.1 e.1 f.1 g.1) }
+    record { endpoints = (least_is _ _ _ _ _ c.0 e.0 f.0 g.0, greatest_is _ _ _ _ _ c.1 e.1 f.1 g.1) }
 
 opposite_product_held : (s d : ℕ) (lo hi : ℤ) → s ≤ 2 ^ 64 → AreDegrees s d lo hi
     → product (negative (around s)) radian ⊆ between (units_of_56 (neg_ℤ hi)) (units_of_56 (neg_ℤ lo))
@@ -349,7 +349,7 @@ opposite_product_held s d lo hi l a =
     let e = opposite_corner s d lo hi _ _ l a k.1.0 in
     let f = opposite_corner s d lo hi _ _ l a k.1.1.0 in
     let g = opposite_corner s d lo hi _ _ l a k.1.1.1 in
-    record { ends = (least_is _ _ _ _ _ f.0 g.0 c.0 e.0, greatest_is _ _ _ _ _ f.1 g.1 c.1 e.1) }
+    record { endpoints = (least_is _ _ _ _ _ f.0 g.0 c.0 e.0, greatest_is _ _ _ _ _ f.1 g.1 c.1 e.1) }
 
 -- ---- in degrees
 radians_small : (q w t s : ℕ) → IsComputed q w t s → s ≤ 2 ^ 64

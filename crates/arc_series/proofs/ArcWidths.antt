@@ -26,9 +26,9 @@ span_keeps w unbounded i lo hi o g h k = tt
 span_keeps w (bounded a b s t) everything lo hi o g h k = absurd k
 span_keeps w (bounded a b s t) (between c d) lo hi o g h k = record {
   ordered = record { cross = omega (arith, ints, o) };
-  above = le_trans _ _ _ k.above h.ends.0;
-  below = le_trans _ _ _ h.ends.1 k.below;
-  close = le_trans _ _ _ h.ends.1 (le_trans _ _ _ k.close (plus_mono _ _ _ _ h.ends.0 (le_refl _)));
+  above = le_trans _ _ _ k.above h.endpoints.0;
+  below = le_trans _ _ _ h.endpoints.1 k.below;
+  close = le_trans _ _ _ h.endpoints.1 (le_trans _ _ _ k.close (plus_mono _ _ _ _ h.endpoints.0 (le_refl _)));
 }
 
 -- endpoints that keep a bound, in whole numbers

@@ -88,7 +88,7 @@ pub start_positive : (high : ℤ) (v : ℕ) (i : Interval) (lo hi : ℤ) → IsW
     ≤ℤ lo
 unfolding IsNarrow
 start_positive high v everything lo hi h k = absurd h.kept
-start_positive high v (between a b) lo hi h k = by_cross (le_trans _ a _ h.kept.above k.ends.0)
+start_positive high v (between a b) lo hi h k = by_cross (le_trans _ a _ h.kept.above k.endpoints.0)
   where
     by_cross : at_32 (pos (2 ^ 28)) ≤F units_of_56 lo → pos 1 ≤ℤ lo
     by_cross l = omega (arith, ints, l.cross)

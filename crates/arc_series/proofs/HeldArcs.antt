@@ -22,17 +22,17 @@ use Rattle.arc_series.specs.Forms.{piece_of, AreHeld, begin_56, end_56}
 
 -- ---- one number and two
 only_same : (x y : Fraction) → only x ⊆ only y → x ≈ y
-only_same x y h = same_of_le h.ends.1 h.ends.0
+only_same x y h = same_of_le h.endpoints.1 h.endpoints.0
 
 pub hull_first : (a b c d lo hi : ℤ) → lo ≡ int_min a c → hi ≡ int_max b d → (i : Interval) → i ⊆ between (units_of_56 a) (units_of_56 b)
     → i ⊆ between (units_of_56 lo) (units_of_56 hi)
 hull_first a b c d lo hi e f i h =
-    within_trans h (record { ends = (record { cross = omega (arith, ints, clamps, e) }, record { cross = omega (arith, ints, clamps, f) }) })
+    within_trans h (record { endpoints = (record { cross = omega (arith, ints, clamps, e) }, record { cross = omega (arith, ints, clamps, f) }) })
 
 pub hull_second : (a b c d lo hi : ℤ) → lo ≡ int_min a c → hi ≡ int_max b d → (i : Interval) → i ⊆ between (units_of_56 c) (units_of_56 d)
     → i ⊆ between (units_of_56 lo) (units_of_56 hi)
 hull_second a b c d lo hi e f i h =
-    within_trans h (record { ends = (record { cross = omega (arith, ints, clamps, e) }, record { cross = omega (arith, ints, clamps, f) }) })
+    within_trans h (record { endpoints = (record { cross = omega (arith, ints, clamps, e) }, record { cross = omega (arith, ints, clamps, f) }) })
 
 -- ---- the endpoints of parts
 split : (j k : ℤ) → (j ≤ℤ k) ⊎ ((k +ℤ pos 1) ≤ℤ j)
@@ -41,7 +41,7 @@ split j k = grind (arith, ints)
 -- where f is b at scale 2^-56
 larger_at : (f : Fraction) (b x : ℤ) → f ≤F units_of_56 b → units_of_56 b ≤F f → only (larger f (units_of_56 x)) ⊆ only (units_of_56 (int_max b x))
 larger_at f b x h k = record {
-  ends = (
+  endpoints = (
     by_split (split x b),
     larger_keeps (λ z. z ≤F units_of_56 (int_max b x)) f (units_of_56 x) (le_trans _ (units_of_56 b) _ h (record { cross = omega (arith, ints, clamps) }))
         (record { cross = omega (arith, ints, clamps) }),
@@ -54,7 +54,7 @@ larger_at f b x h k = record {
 
 smaller_at : (f : Fraction) (b x : ℤ) → f ≤F units_of_56 b → units_of_56 b ≤F f → only (smaller f (units_of_56 x)) ⊆ only (units_of_56 (int_min b x))
 smaller_at f b x h k = record {
-  ends = (
+  endpoints = (
     smaller_keeps (λ z. units_of_56 (int_min b x) ≤F z) f (units_of_56 x) (le_trans _ (units_of_56 b) _ (record { cross = omega (arith, ints, clamps) }) k)
         (record { cross = omega (arith, ints, clamps) }),
     by_split (split b x),
@@ -66,7 +66,7 @@ smaller_at f b x h k = record {
     by_split (inr l) = le_trans _ (units_of_56 x) _ (smaller_second f (units_of_56 x)) (record { cross = omega (arith, ints, clamps, l) })
 
 low_only : (p : Piece) (x : ℤ) → negsuc (2 ^ 127 - 1) ≤ℤ x → only (low_of (piece_of p) (units_of_56 x)) ⊆ only (units_of_56 (int_max (begin_56 p) x))
-low_only FarBelow x h = record { ends = (record { cross = omega (arith, ints, clamps, h) }, record { cross = omega (arith, ints, clamps, h) }) }
+low_only FarBelow x h = record { endpoints = (record { cross = omega (arith, ints, clamps, h) }, record { cross = omega (arith, ints, clamps, h) }) }
 low_only Below x h = larger_at (whole (negsuc 2)) (begin_56 Below) x (record { cross = omega (arith, ints) }) (record { cross = omega (arith, ints) })
 low_only Near x h = larger_at minus_half (begin_56 Near) x (record { cross = omega (arith, ints) }) (record { cross = omega (arith, ints) })
 low_only Above x h = larger_at half (begin_56 Above) x (record { cross = omega (arith, ints) }) (record { cross = omega (arith, ints) })
@@ -77,7 +77,7 @@ high_only FarBelow x h = smaller_at (whole (negsuc 2)) (end_56 FarBelow) x (reco
 high_only Below x h = smaller_at minus_half (end_56 Below) x (record { cross = omega (arith, ints) }) (record { cross = omega (arith, ints) })
 high_only Near x h = smaller_at half (end_56 Near) x (record { cross = omega (arith, ints) }) (record { cross = omega (arith, ints) })
 high_only Above x h = smaller_at (whole (pos 3)) (end_56 Above) x (record { cross = omega (arith, ints) }) (record { cross = omega (arith, ints) })
-high_only FarAbove x h = record { ends = (record { cross = omega (arith, ints, clamps, h) }, record { cross = omega (arith, ints, clamps, h) }) }
+high_only FarAbove x h = record { endpoints = (record { cross = omega (arith, ints, clamps, h) }, record { cross = omega (arith, ints, clamps, h) }) }
 
 begun_says : (p : Piece) (x : ℤ) → negsuc (2 ^ 127 - 1) ≤ℤ x → IsFrom ((piece_of p).begin) (units_of_56 x) → begin_56 p ≤ℤ x
 begun_says FarBelow x h f = h

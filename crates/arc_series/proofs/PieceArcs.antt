@@ -23,23 +23,23 @@ Holds_mirrored q lo hi = (n : ℕ) (x : Fraction) → 40 ≤ n → 1 ≤ q → I
     → arc_near n x ⊆ between (units_of_56 (neg_ℤ hi)) (units_of_56 (neg_ℤ lo))
 
 -- ---- numbers and spans more, and less
-more_ends : (k : ℕ) (lo hi low high : ℤ) → low ≡ pos (k * 2 ^ 56) +ℤ lo → high ≡ pos (k * 2 ^ 56) +ℤ hi
+more_endpoints : (k : ℕ) (lo hi low high : ℤ) → low ≡ pos (k * 2 ^ 56) +ℤ lo → high ≡ pos (k * 2 ^ 56) +ℤ hi
     → sum (only (whole (pos k))) (between (units_of_56 lo) (units_of_56 hi)) ⊆ between (units_of_56 low) (units_of_56 high)
 unfolding sum plus
-more_ends k lo hi low high e f = record { ends = (record { cross = omega (arith, ints, e) }, record { cross = omega (arith, ints, f) }) }
+more_endpoints k lo hi low high e f = record { endpoints = (record { cross = omega (arith, ints, e) }, record { cross = omega (arith, ints, f) }) }
 
 pub more_held : (k : ℕ) (lo hi low high : ℤ) (i : Interval) → low ≡ pos (k * 2 ^ 56) +ℤ lo → high ≡ pos (k * 2 ^ 56) +ℤ hi
     → i ⊆ between (units_of_56 lo) (units_of_56 hi) → sum (only (whole (pos k))) i ⊆ between (units_of_56 low) (units_of_56 high)
-more_held k lo hi low high i e f h = within_trans (sum_within (within_refl (only (whole (pos k)))) h) (more_ends k lo hi low high e f)
+more_held k lo hi low high i e f h = within_trans (sum_within (within_refl (only (whole (pos k)))) h) (more_endpoints k lo hi low high e f)
 
-opposite_ends : (lo hi low high : ℤ) → low ≡ neg_ℤ hi → high ≡ neg_ℤ lo
+opposite_endpoints : (lo hi low high : ℤ) → low ≡ neg_ℤ hi → high ≡ neg_ℤ lo
     → negative (between (units_of_56 lo) (units_of_56 hi)) ⊆ between (units_of_56 low) (units_of_56 high)
 unfolding negative opposite
-opposite_ends lo hi low high e f = record { ends = (record { cross = omega (arith, ints, e) }, record { cross = omega (arith, ints, f) }) }
+opposite_endpoints lo hi low high e f = record { endpoints = (record { cross = omega (arith, ints, e) }, record { cross = omega (arith, ints, f) }) }
 
 pub opposite_held : (lo hi low high : ℤ) (i : Interval) → low ≡ neg_ℤ hi → high ≡ neg_ℤ lo → i ⊆ between (units_of_56 lo) (units_of_56 hi)
     → negative i ⊆ between (units_of_56 low) (units_of_56 high)
-opposite_held lo hi low high i e f h = within_trans (negative_within h) (opposite_ends lo hi low high e f)
+opposite_held lo hi low high i e f h = within_trans (negative_within h) (opposite_endpoints lo hi low high e f)
 
 pub less_held : (k : ℕ) (lo hi low high : ℤ) (i : Interval) → low ≡ pos (k * 2 ^ 56) -ℤ hi → high ≡ pos (k * 2 ^ 56) -ℤ lo
     → i ⊆ between (units_of_56 lo) (units_of_56 hi) → difference (only (whole (pos k))) i ⊆ between (units_of_56 low) (units_of_56 high)

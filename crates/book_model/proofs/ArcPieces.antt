@@ -121,7 +121,7 @@ quarters = between (whole (negsuc 89)) (whole (pos 90))
 
 opposite_quarters : negative quarters ⊆ quarters
 unfolding negative opposite
-opposite_quarters = record { ends = (record { cross = record { le = tt } }, record { cross = record { le = tt } }) }
+opposite_quarters = record { endpoints = (record { cross = record { le = tt } }, record { cross = record { le = tt } }) }
 
 -- ---- the positive pieces
 above_rises : (n : ℕ) (x y : Fraction) → InAbove x → InAbove y → x ≤F y → Precedes (arc_above n x) (arc_above n y)
@@ -138,7 +138,7 @@ above_proper n x w = plus_proper _ _ (le_refl (whole (pos 45))) (near_proper n (
 
 first_quarter : sum (only (whole (pos 45))) (between (whole (negsuc 44)) (whole (pos 45))) ⊆ quarters
 unfolding sum plus
-first_quarter = record { ends = (record { cross = record { le = tt } }, record { cross = record { le = tt } }) }
+first_quarter = record { endpoints = (record { cross = record { le = tt } }, record { cross = record { le = tt } }) }
 
 above_inside : (n : ℕ) (x : Fraction) → InAbove x → arc_above n x ⊆ quarters
 unfolding arc_above
@@ -160,7 +160,7 @@ beyond_proper n x w = plus_proper _ _ (le_refl (whole (pos 90))) (negative_prope
 
 last_eighth : sum (only (whole (pos 90))) (negative (between zero_F (whole (pos 45)))) ⊆ quarters
 unfolding sum plus negative opposite
-last_eighth = record { ends = (record { cross = record { le = tt } }, record { cross = record { le = tt } }) }
+last_eighth = record { endpoints = (record { cross = record { le = tt } }, record { cross = record { le = tt } }) }
 
 beyond_inside : (n : ℕ) (x : Fraction) → whole (pos 3) ≤F x → arc_beyond n x ⊆ quarters
 unfolding arc_beyond
@@ -169,7 +169,7 @@ beyond_inside n x w =
     (negative_within (near_nonneg n (reciprocal x) (recip_in x w) (recip_nonneg x (three_positive x w))))) last_eighth
 
 near_quarters : between (whole (negsuc 44)) (whole (pos 45)) ⊆ quarters
-near_quarters = record { ends = (record { cross = record { le = tt } }, record { cross = record { le = tt } }) }
+near_quarters = record { endpoints = (record { cross = record { le = tt } }, record { cross = record { le = tt } }) }
 
 -- ---- all pieces
 abbrev pub IsFrom : Option Fraction → Fraction → Type 0

@@ -9,7 +9,7 @@ use Rattle.exact_math.proofs.Fractions.{le_refl, le_trans, times_mono, opposite_
 use Rattle.exact_math.proofs.Intervals.{within_trans, within_refl, negative_within, product_within, product_proper, negative_proper, quotient_within, quotient_proper, least_is, least_below, greatest_is, greatest_above}
 use Rattle.exact_math.proofs.Certificates.{zero_F, ◌≼◌, known, ◌⊞◌, le_by}
 use Rattle.exact_math.proofs.Hulls.{true_at_most, hull_least}
-use Rattle.exact_math.proofs.Alternating.{Halving, beneath, lower_is_beneath, sums_nested, lower_rises, upper_rises, sum_ends_in_order}
+use Rattle.exact_math.proofs.Alternating.{Halving, beneath, lower_is_beneath, sums_nested, lower_rises, upper_rises, sum_endpoints_in_order}
 use Rattle.book_model.specs.numbers.Series.{arctan_term, arctan_at, scaled, pi_at}
 use Rattle.book_model.specs.numbers.Octants.{only}
 use Rattle.book_model.specs.numbers.Arcs.{half, minus_half, arctan_series, radian_at, arc_near}
@@ -48,7 +48,7 @@ lower_nonneg zero t h = rw (lower_is_beneath t 0 (h.nonneg 1))
 lower_nonneg (suc n) t h = le_trans zero_F (lower t n) (lower t (suc n)) (lower_nonneg n t h) (sums_nested n t h).0
 
 upper_nonneg : (n : ℕ) (t : ℕ → Fraction) → Halving t → zero_F ≤F upper t n
-upper_nonneg n t h = le_trans zero_F (lower t n) (upper t n) (lower_nonneg n t h) (sum_ends_in_order n t (h.nonneg (suc n)))
+upper_nonneg n t h = le_trans zero_F (lower t n) (upper t n) (lower_nonneg n t h) (sum_endpoints_in_order n t (h.nonneg (suc n)))
 
 across : (a b : Fraction) → zero_F ≤F a → zero_F ≤F b → opposite a ≤F b
 across a b h k = le_by (a ∷ b ∷ []) ((lit (pos 0) ≼ at 0) ∷ (lit (pos 0) ≼ at 1) ∷ []) (minus (at 0)) (at 1) (known 0 ⊞ known 1) refl (h, (k, tt))
@@ -85,10 +85,10 @@ unfolding arctan_series
 series_rises n x y w v h = signed_rises n x y (is_at_most zero_F x) (is_at_most zero_F y) w v h refl refl
 
 pub at_deeper : (n : ℕ) (x : Fraction) → IsUpTo 1 2 x → arctan_at (suc n) x ⊆ arctan_at n x
-at_deeper n x w = let h = sums_nested n (arctan_term x) (arctan_halving x w) in record { ends = (h.0, h.1) }
+at_deeper n x w = let h = sums_nested n (arctan_term x) (arctan_halving x w) in record { endpoints = (h.0, h.1) }
 
 at_proper : (n : ℕ) (x : Fraction) → IsUpTo 1 2 x → IsProper (arctan_at n x)
-at_proper n x w = sum_ends_in_order n (arctan_term x) ((arctan_halving x w).nonneg (suc n))
+at_proper n x w = sum_endpoints_in_order n (arctan_term x) ((arctan_halving x w).nonneg (suc n))
 
 signed_deeper : (n : ℕ) (x : Fraction) (s : Bool) → InHalf x → is_at_most zero_F x ≡ s → signed s (suc n) x ⊆ signed s n x
 signed_deeper n x true w e = at_deeper n x (positive_near x w e)
@@ -126,7 +126,7 @@ degrees_deeper n = quotient_within (le_refl (whole (pos 180))) (pi_proper (suc n
 degrees_at_0 : radian_at 0 ⊆ between zero_F (whole (pos 60))
 unfolding radian_at quotient reciprocal product least greatest smaller larger is_at_most pi_at sum negative scaled lower upper alternating size arctan_term
     power plus times opposite
-degrees_at_0 = record { ends = (record { cross = record { le = tt } }, record { cross = record { le = tt } }) }
+degrees_at_0 = record { endpoints = (record { cross = record { le = tt } }, record { cross = record { le = tt } }) }
 
 degrees_inside : (n : ℕ) → radian_at n ⊆ between zero_F (whole (pos 60))
 unfolding radian_at
@@ -150,7 +150,7 @@ products_rise i j (between p q) o h (preceding {a = a} {b = b} {c = c} {d = e} a
 
 pub near_rises : (n : ℕ) (x y : Fraction) → InHalf x → InHalf y → x ≤F y → Precedes (arc_near n x) (arc_near n y)
 unfolding arc_near
-near_rises n x y w v h = products_rise _ _ (radian_at n) (degrees_proper n) (degrees_inside n).ends (series_rises n x y w v h)
+near_rises n x y w v h = products_rise _ _ (radian_at n) (degrees_proper n) (degrees_inside n).endpoints (series_rises n x y w v h)
 
 pub near_deeper : (n : ℕ) (x : Fraction) → InHalf x → arc_near (suc n) x ⊆ arc_near n x
 unfolding arc_near
@@ -168,7 +168,7 @@ near_by (suc n) x w = within_trans (near_deeper n x w) (near_by n x w)
 pub amid : {i j k : Interval} → Precedes i j → Precedes j k → j ⊆ hull i k
 unfolding hull
 amid (preceding {a = a} {b = b} ac bd) (preceding {c = e} {d = f} ce df) = record
-    { ends = (le_trans _ _ _ (smaller_first a e) ac, le_trans _ _ _ df (larger_second b f)) }
+    { endpoints = (le_trans _ _ _ (smaller_first a e) ac, le_trans _ _ _ df (larger_second b f)) }
 
 half_in : InHalf half
 half_in = record { above = record { cross = record { le = tt } }; below = le_refl half }
@@ -182,20 +182,20 @@ zero_in = record { above = record { cross = record { le = tt } }; below = record
 half_at_0 : arc_near 0 half ⊆ between zero_F (whole (pos 45))
 unfolding arc_near arctan_series radian_at quotient reciprocal product least greatest smaller larger is_at_most pi_at sum negative scaled lower upper
     alternating size arctan_term power plus times opposite
-half_at_0 = record { ends = (record { cross = record { le = tt } }, record { cross = record { le = tt } }) }
+half_at_0 = record { endpoints = (record { cross = record { le = tt } }, record { cross = record { le = tt } }) }
 
 zero_at_0 : arc_near 0 zero_F ⊆ between zero_F (whole (pos 45))
 unfolding arc_near arctan_series radian_at quotient reciprocal product least greatest smaller larger is_at_most pi_at sum negative scaled lower upper
     alternating size arctan_term power plus times opposite
-zero_at_0 = record { ends = (record { cross = record { le = tt } }, record { cross = record { le = tt } }) }
+zero_at_0 = record { endpoints = (record { cross = record { le = tt } }, record { cross = record { le = tt } }) }
 
 minus_half_at_0 : arc_near 0 minus_half ⊆ between (whole (negsuc 44)) (whole (pos 45))
 unfolding arc_near arctan_series radian_at quotient reciprocal product least greatest smaller larger is_at_most pi_at sum negative scaled lower upper
     alternating size arctan_term power plus times opposite
-minus_half_at_0 = record { ends = (record { cross = record { le = tt } }, record { cross = record { le = tt } }) }
+minus_half_at_0 = record { endpoints = (record { cross = record { le = tt } }, record { cross = record { le = tt } }) }
 
 widely : between zero_F (whole (pos 45)) ⊆ between (whole (negsuc 44)) (whole (pos 45))
-widely = record { ends = (record { cross = record { le = tt } }, le_refl (whole (pos 45))) }
+widely = record { endpoints = (record { cross = record { le = tt } }, le_refl (whole (pos 45))) }
 
 pub near_inside : (n : ℕ) (x : Fraction) → InHalf x → arc_near n x ⊆ between (whole (negsuc 44)) (whole (pos 45))
 near_inside n x w =

@@ -11,7 +11,7 @@ use Rattle.exact_math.proofs.Intervals.{within_trans, within_refl, smaller_mono,
 use Rattle.exact_math.proofs.Hulls.{true_at_most, hull_holds_first, hull_holds_second, hull_least}
 use Rattle.exact_math.proofs.Narrowing.{Narrowing, at_least, compose, argument, steady, sums, products, quotients}
 use Rattle.book_model.specs.numbers.Octants.{only}
-use Rattle.book_model.specs.numbers.Arcs.{half, minus_half, Piece, far_below, below, near, above, far_above, pieces, begins_by, ends_from, low_from, high_to, meets, arc_of_part, arcs_over, hull_with, hull_of_all, arctangent_of, all_around, arctangent_of_two, other_side, arcsine_of, arccosine_of}
+use Rattle.book_model.specs.numbers.Arcs.{half, minus_half, Piece, far_below, below, near, above, far_above, pieces, begins_by, endpoints_from, low_from, high_to, meets, arc_of_part, arcs_over, hull_with, hull_of_all, arctangent_of, all_around, arctangent_of_two, other_side, arcsine_of, arccosine_of}
 use Rattle.book_model.specs.numbers.Roots.{root_of}
 use Rattle.book_model.specs.programs.Nesting.{IsNested, IsNestedOfTwo}
 use Rattle.book_model.proofs.Roots.{roots}
@@ -114,13 +114,13 @@ begins_in : (o : Option Fraction) (b : Fraction) → IsFrom o b → begins_by o 
 begins_in None b h = refl
 begins_in (Some x) b h = true_at_most x b h
 
-ends_out : (o : Option Fraction) (a : Fraction) → ends_from o a ≡ true → IsTo o a
-ends_out None a e = tt
-ends_out (Some x) a e = at_most_true a x e
+endpoints_out : (o : Option Fraction) (a : Fraction) → endpoints_from o a ≡ true → IsTo o a
+endpoints_out None a e = tt
+endpoints_out (Some x) a e = at_most_true a x e
 
-ends_in : (o : Option Fraction) (a : Fraction) → IsTo o a → ends_from o a ≡ true
-ends_in None a h = refl
-ends_in (Some x) a h = true_at_most a x h
+endpoints_in : (o : Option Fraction) (a : Fraction) → IsTo o a → endpoints_from o a ≡ true
+endpoints_in None a h = refl
+endpoints_in (Some x) a h = true_at_most a x h
 
 from_above : (o : Option Fraction) (x y : Fraction) → x ≤F y → IsFrom o x → IsFrom o y
 from_above None x y h f = tt
@@ -190,10 +190,10 @@ both_in true false e f = f
 both_in false t e f = e
 
 pub met_out : (p : Piece) (a b : Fraction) → meets a b p ≡ true → AreMet p a b
-met_out p a b e = let s = both_out _ _ e in record { begun = begins_out p.begin b s.0; ended = ends_out p.end a s.1 }
+met_out p a b e = let s = both_out _ _ e in record { begun = begins_out p.begin b s.0; ended = endpoints_out p.end a s.1 }
 
 met_in : (p : Piece) (a b : Fraction) → AreMet p a b → meets a b p ≡ true
-met_in p a b m = both_in _ _ (begins_in p.begin b m.begun) (ends_in p.end a m.ended)
+met_in p a b m = both_in _ _ (begins_in p.begin b m.begun) (endpoints_in p.end a m.ended)
 
 met_outside : (p : Piece) (a b c d : Fraction) → c ≤F a → b ≤F d → AreMet p a b → AreMet p c d
 met_outside p a b c d h k m = record { begun = from_above p.begin b d k m.begun; ended = to_below p.end c a h m.ended }
@@ -273,20 +273,20 @@ unfolding arctangent_of
 arctangent_proper n everything p = tt
 arctangent_proper n (between a b) p = all_proper (arcs_over n a b pieces) (arcs_each n a b IsProper (λ q r m. part_proper n q a b r m))
 
-pub arctangent_ends : (n : ℕ) (i j : Interval) → IsProper i → AreWithin i j → arctangent_of n i ⊆ arctangent_of n j
+pub arctangent_endpoints : (n : ℕ) (i j : Interval) → IsProper i → AreWithin i j → arctangent_of n i ⊆ arctangent_of n j
 unfolding arctangent_of
-arctangent_ends n i everything p h = record { ends = tt }
-arctangent_ends n everything (between c d) p h = absurd h
-arctangent_ends n (between a b) (between c d) p h = arcs_within n n a b c d p
+arctangent_endpoints n i everything p h = record { endpoints = tt }
+arctangent_endpoints n everything (between c d) p h = absurd h
+arctangent_endpoints n (between a b) (between c d) p h = arcs_within n n a b c d p
     (λ q r m. (met_outside q a b c d h.0 h.1 m, part_within n q a b c d r p h.0 h.1 m))
 
 arctangent_deeper : (n : ℕ) (i : Interval) → IsProper i → arctangent_of (suc n) i ⊆ arctangent_of n i
 unfolding arctangent_of
-arctangent_deeper n everything p = record { ends = tt }
+arctangent_deeper n everything p = record { endpoints = tt }
 arctangent_deeper n (between a b) p = arcs_within n (suc n) a b a b p (λ q r m. (m, part_deeper n q a b r m))
 
 pub arctangents : Narrowing arctangent_of
-arctangents = record { proper = arctangent_proper; within = λ n {i} {j} p h. arctangent_ends n i j p h.ends; deeper = arctangent_deeper }
+arctangents = record { proper = arctangent_proper; within = λ n {i} {j} p h. arctangent_endpoints n i j p h.endpoints; deeper = arctangent_deeper }
 
 pub arctangent_inside : (n : ℕ) (a b : Fraction) → a ≤F b → arctangent_of n (between a b) ⊆ quarters
 unfolding arctangent_of
@@ -344,11 +344,11 @@ bounded_inside n (between a b) p h = arctangent_inside n a b p
 -- 90 or -90 degrees less a quarter turn
 upper_half : difference (only (whole (pos 90))) quarters ⊆ all_around
 unfolding sum negative plus opposite
-upper_half = record { ends = (record { cross = record { le = tt } }, record { cross = record { le = tt } }) }
+upper_half = record { endpoints = (record { cross = record { le = tt } }, record { cross = record { le = tt } }) }
 
 lower_half : difference (only (whole (negsuc 89))) quarters ⊆ all_around
 unfolding sum negative plus opposite
-lower_half = record { ends = (record { cross = record { le = tt } }, record { cross = record { le = tt } }) }
+lower_half = record { endpoints = (record { cross = record { le = tt } }, record { cross = record { le = tt } }) }
 
 abbrev less_arctangent : ℕ → Fraction → (c d a b : Fraction) → Interval
 less_arctangent n e c d a b = difference (only e) (arctangent_of n (quotient (between c d) (between a b)))
@@ -417,23 +417,23 @@ bounded_two_nested n m a b a' b' c d c' d' l o p h k = by_test (lt_z (pos 0) a'.
     by_test : (s t : Bool) → lt_z (pos 0) a'.num ≡ s → lt_z b'.num (pos 0) ≡ t
         → chosen (lt_z (pos 0) a.num) (lt_z b.num (pos 0)) (less_arctangent m (whole (pos 90)) c d a b) (less_arctangent m (whole (negsuc 89)) c d a b) ⊆ chosen
         s t (less_arctangent n (whole (pos 90)) c' d' a' b') (less_arctangent n (whole (negsuc 89)) c' d' a' b')
-    by_test true t e f = rw (positive_stays a' a h.0 e) (less_nested n m (whole (pos 90)) c d a b c' d' a' b' l o p (record { ends = k }) (record { ends = h }))
+    by_test true t e f = rw (positive_stays a' a h.0 e) (less_nested n m (whole (pos 90)) c d a b c' d' a' b' l o p (record { endpoints = k }) (record { endpoints = h }))
     by_test false true e f =
         let g = negative_stays b b' h.1 f in
-        rw (not_positive a b o g, g) (less_nested n m (whole (negsuc 89)) c d a b c' d' a' b' l o p (record { ends = k }) (record { ends = h }))
+        rw (not_positive a b o g, g) (less_nested n m (whole (negsuc 89)) c d a b c' d' a' b' l o p (record { endpoints = k }) (record { endpoints = h }))
     by_test false false e f = bounded_two_inside m a b c d o p
 
-two_ends : (n m : ℕ) (i i' j j' : Interval) → n ≤ m → IsProper i → IsProper j → AreWithin i i' → AreWithin j j'
+two_endpoints : (n m : ℕ) (i i' j j' : Interval) → n ≤ m → IsProper i → IsProper j → AreWithin i i' → AreWithin j j'
     → arctangent_of_two m i j ⊆ arctangent_of_two n i' j'
 unfolding arctangent_of_two
-two_ends n m i everything j j' l o p h k = two_inside m i j o p
-two_ends n m everything (between a' b') j j' l o p h k = absurd h
-two_ends n m (between a b) (between a' b') j everything l o p h k = two_inside m (between a b) j o p
-two_ends n m (between a b) (between a' b') everything (between c' d') l o p h k = absurd k
-two_ends n m (between a b) (between a' b') (between c d) (between c' d') l o p h k = bounded_two_nested n m a b a' b' c d c' d' l o p h k
+two_endpoints n m i everything j j' l o p h k = two_inside m i j o p
+two_endpoints n m everything (between a' b') j j' l o p h k = absurd h
+two_endpoints n m (between a b) (between a' b') j everything l o p h k = two_inside m (between a b) j o p
+two_endpoints n m (between a b) (between a' b') everything (between c' d') l o p h k = absurd k
+two_endpoints n m (between a b) (between a' b') (between c d) (between c' d') l o p h k = bounded_two_nested n m a b a' b' c d c' d' l o p h k
 
 pub two_nested : (n m : ℕ) {i i' j j' : Interval} → n ≤ m → IsProper i → IsProper j → i ⊆ i' → j ⊆ j' → arctangent_of_two m i j ⊆ arctangent_of_two n i' j'
-two_nested n m {i} {i'} {j} {j'} l o p h k = two_ends n m i i' j j' l o p h.ends k.ends
+two_nested n m {i} {i'} {j} {j'} l o p h k = two_endpoints n m i i' j j' l o p h.endpoints k.endpoints
 
 all_around_proper : IsProper all_around
 all_around_proper = record { cross = record { le = tt } }

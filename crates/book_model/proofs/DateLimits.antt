@@ -43,9 +43,9 @@ within_limits c f k few h =
     let counted = both ((f.count == (row_of c).count) && are_within (row_of c) f) (has_day_of_month c f) h in
     let within = both (f.count == (row_of c).count) (are_within (row_of c) f) counted.0 in
     let here : is_within (row_of c) f k ≡ true = one_of_five (is_within (row_of c) f) k few within.1 in
-    let ends = both (nat_le (slice_index_or (row_of c).limits k (0, 0)).0 (field f k)) (nat_le (field f k) (slice_index_or (row_of c).limits k (0, 0)).1)
+    let endpoints = both (nat_le (slice_index_or (row_of c).limits k (0, 0)).0 (field f k)) (nat_le (field f k) (slice_index_or (row_of c).limits k (0, 0)).1)
     here in
-    record { low = grind (arith, nat_tests, ends.0); high = grind (arith, nat_tests, ends.1) }
+    record { low = grind (arith, nat_tests, endpoints.0); high = grind (arith, nat_tests, endpoints.1) }
 
 -- a number whose size is at most so much
 pub by_size : (z : ℤ) (n : ℕ) → unsigned_abs z ≤ n → (neg_ℤ (pos n) ≤ℤ z) × (z ≤ℤ pos n)

@@ -51,9 +51,9 @@ unfolding opposite
 edge_opposite a l h = le_by (a ∷ whole l ∷ []) ((lit (pos 45) ⊗ at 1 ≼ minus (at 0)) ∷ []) (at 0) (lit (pos 45) ⊗ minus (at 1)) (known 0) refl (h, tt)
 
 -- the first octant ends at or above the beginning
-first_ends : (a : Fraction) → a ≤F octant_edge (first_octant a +ℤ pos 1)
+first_endpoints : (a : Fraction) → a ≤F octant_edge (first_octant a +ℤ pos 1)
 unfolding first_octant
-first_ends a = rw (next_first (last_octant (opposite a))) (edge_opposite a (last_octant (opposite a)) (last_begins (opposite a)))
+first_endpoints a = rw (next_first (last_octant (opposite a))) (edge_opposite a (last_octant (opposite a)) (last_begins (opposite a)))
 
 strict_weak : (a b : Fraction) → a <F b → a ≤F b
 strict_weak a b h = record { cross = omega (arith, ints, h.strict) }
@@ -83,10 +83,10 @@ pub record AreMet (a b : Fraction) (k : ℤ) : Type 0 where
 pub begins_below : (a b : Fraction) (k : ℤ) → AreMet a b k → octant_edge k ≤F b
 begins_below a b k m = le_trans _ (octant_edge (last_octant b)) _ (edges_rise k (last_octant b) m.to) (last_begins b)
 
-pub ends_above : (a b : Fraction) (k : ℤ) → AreMet a b k → a ≤F octant_edge (k +ℤ pos 1)
-ends_above a b k m =
+pub endpoints_above : (a b : Fraction) (k : ℤ) → AreMet a b k → a ≤F octant_edge (k +ℤ pos 1)
+endpoints_above a b k m =
     let f = m.from in
-    le_trans _ (octant_edge (first_octant a +ℤ pos 1)) _ (first_ends a) (edges_rise (first_octant a +ℤ pos 1) (k +ℤ pos 1) (omega (arith, ints)))
+    le_trans _ (octant_edge (first_octant a +ℤ pos 1)) _ (first_endpoints a) (edges_rise (first_octant a +ℤ pos 1) (k +ℤ pos 1) (omega (arith, ints)))
 
 -- an octant that begins at or below b is at most the last
 begun_at_most : (b : Fraction) (k : ℤ) → octant_edge k ≤F b → k ≤ℤ last_octant b
@@ -110,7 +110,7 @@ ended_at_least a k h = let l = begun_at_most (opposite a) (neg_ℤ (k +ℤ pos 1
 pub octants_met : AreOctantsMet
 octants_met = record {
   met = λ a b k. (
-    λ m. (ends_above a b k (record { from = m.0; to = m.1 }), begins_below a b k (record { from = m.0; to = m.1 })),
+    λ m. (endpoints_above a b k (record { from = m.0; to = m.1 }), begins_below a b k (record { from = m.0; to = m.1 })),
     λ m. (ended_at_least a k m.0, begun_at_most b k m.1),
   );
   some = first_before_last;
@@ -205,7 +205,7 @@ part a b k p m = record {
   begun = larger_first (octant_edge k) a;
   ordered = larger_keeps (λ z. z ≤F smaller (octant_edge (k +ℤ pos 1)) b) (octant_edge k) a
       (smaller_keeps (λ z. octant_edge k ≤F z) (octant_edge (k +ℤ pos 1)) b (edges_rise k (k +ℤ pos 1) (omega (arith, ints))) (begins_below a b k m))
-      (smaller_keeps (λ z. a ≤F z) (octant_edge (k +ℤ pos 1)) b (ends_above a b k m) p);
+      (smaller_keeps (λ z. a ≤F z) (octant_edge (k +ℤ pos 1)) b (endpoints_above a b k m) p);
   ended = smaller_first (octant_edge (k +ℤ pos 1)) b;
 }
 
@@ -259,12 +259,12 @@ sine_inside zero i p = within_refl all_sines
 sine_inside (suc n) everything p = within_refl all_sines
 sine_inside (suc n) (between a b) p = over_least (sine_in (suc n) a b) a b all_sines p (λ k m. in_inside n a b k p m)
 
-sine_ends : (n : ℕ) (i j : Interval) → IsProper i → AreWithin i j → sine_of_degrees n i ⊆ sine_of_degrees n j
+sine_endpoints : (n : ℕ) (i j : Interval) → IsProper i → AreWithin i j → sine_of_degrees n i ⊆ sine_of_degrees n j
 unfolding sine_of_degrees
-sine_ends zero i j p h = within_refl all_sines
-sine_ends (suc n) i everything p h = sine_inside (suc n) i p
-sine_ends (suc n) everything (between c d) p h = absurd h
-sine_ends (suc n) (between a b) (between c d) p h =
+sine_endpoints zero i j p h = within_refl all_sines
+sine_endpoints (suc n) i everything p h = sine_inside (suc n) i p
+sine_endpoints (suc n) everything (between c d) p h = absurd h
+sine_endpoints (suc n) (between a b) (between c d) p h =
     let q = le_trans c a d h.0 (le_trans a b d p h.1) in
     over_least (sine_in (suc n) a b) a b _ p
     (λ k m. within_trans (in_within n a b c d k p h.0 h.1 m) (over_holds (sine_in (suc n) c d) c d k q (met_outside a b c d k h.0 h.1 m)))
@@ -278,7 +278,7 @@ sine_deeper (suc n) (between a b) p =
     (λ k m. within_trans (in_deeper n a b k) (over_holds (sine_in (suc n) a b) a b k p m))
 
 pub degree_sines : Narrowing sine_of_degrees
-degree_sines = record { proper = sine_proper; within = λ n {i} {j} p h. sine_ends n i j p h.ends; deeper = sine_deeper }
+degree_sines = record { proper = sine_proper; within = λ n {i} {j} p h. sine_endpoints n i j p h.endpoints; deeper = sine_deeper }
 
 pub degree_cosines : Narrowing cosine_of_degrees
 unfolding cosine_of_degrees

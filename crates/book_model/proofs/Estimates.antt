@@ -57,7 +57,7 @@ estimate_few l x = at_most_bind 3 3 (past_few l x) (λ p. at_most_bind 3 0 (off_
 -- ---- from where to where intervals lie
 pub between_of_within : (lo hi : ℤ) (i : Interval) → i ⊆ between (whole lo) (whole hi) → IsBetween lo hi i
 between_of_within lo hi everything h = tt
-between_of_within lo hi (between a b) h = (h.ends.0, h.ends.1)
+between_of_within lo hi (between a b) h = (h.endpoints.0, h.endpoints.1)
 
 pub wider : (lo hi l h : ℤ) (i : Interval) → l ≤ℤ lo → hi ≤ℤ h → IsBetween lo hi i → IsBetween l h i
 wider lo hi l h everything p q k = tt
@@ -136,12 +136,12 @@ valued_same w a b h = cc
 half_turn_off : (i : Interval) → i ⊆ between (whole (pos 0)) (whole (pos 360))
     → difference i (exactly (whole (pos 180))) ⊆ between (whole (negsuc 179)) (whole (pos 180))
 unfolding sum negative
-half_turn_off everything h = absurd h.ends
+half_turn_off everything h = absurd h.endpoints
 half_turn_off (between a b) h =
     record {
-      ends = (
-        le_trans _ _ _ (whole_less (pos 0) (pos 180)) (plus_mono _ _ _ _ h.ends.0 (le_refl _)),
-        le_trans _ _ _ (plus_mono _ _ _ _ h.ends.1 (le_refl _)) (less_whole (pos 360) (pos 180)),
+      endpoints = (
+        le_trans _ _ _ (whole_less (pos 0) (pos 180)) (plus_mono _ _ _ _ h.endpoints.0 (le_refl _)),
+        le_trans _ _ _ (plus_mono _ _ _ _ h.endpoints.1 (le_refl _)) (less_whole (pos 360) (pos 180)),
       );
     }
 
@@ -155,12 +155,12 @@ off_within w l x o h =
 -- a turn, and half a turn on both sides, as the days of the mean sun
 days_of_turn : product (between (whole (pos 0)) (whole (pos 360))) (exactly (fraction_of DEGREE_OF_YEAR)) ⊆ between (whole (pos 0)) (whole (pos 366))
 unfolding product least greatest smaller larger times is_at_most
-days_of_turn = record { ends = (record { cross = omega (arith, ints) }, record { cross = omega (arith, ints) }) }
+days_of_turn = record { endpoints = (record { cross = omega (arith, ints) }, record { cross = omega (arith, ints) }) }
 
 days_of_half_turns : product (between (whole (negsuc 179)) (whole (pos 180))) (exactly (fraction_of DEGREE_OF_YEAR)) ⊆ between (whole (negsuc 182))
     (whole (pos 183))
 unfolding product least greatest smaller larger times is_at_most
-days_of_half_turns = record { ends = (record { cross = omega (arith, ints) }, record { cross = omega (arith, ints) }) }
+days_of_half_turns = record { endpoints = (record { cross = omega (arith, ints) }, record { cross = omega (arith, ints) }) }
 
 -- what is taken off is at most so many days
 back_between : (w : World) (p x : Expression) (a b c d : ℤ) (lo hi : ℤ) → value w p ⊆ between (whole a) (whole b)

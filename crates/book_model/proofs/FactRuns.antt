@@ -128,7 +128,7 @@ remainder_in_turn (between a b) q e =
     let same : cell_of (multiples 360) b ≡ q = sym ((Decides-int_eq _ _).0 w.0) ∙ w.1 in
     let low = rw w.1 at ((cells_cut (multiples 360)).begun a) in
     let high = rw same at ((cells_cut (multiples 360)).not_over b) in
-    record { ends = (turn_below a q low, turn_above b q high) }
+    record { endpoints = (turn_below a q low, turn_above b q high) }
 
 -- the same, with the turn's endpoints
 pub remainder_within : (i : Interval) (q : ℤ) → cell_at (multiples 360) i ≡ Some q
@@ -151,7 +151,7 @@ sun_within w x e h = sun_in_turn w x e h
 -- ---- the value of the sun's longitude, in thousandths
 thousand_turns : product turn (exactly (fraction_of THOUSANDTHS_OF_DEGREE)) ⊆ between (whole (pos 0)) (whole (pos 360000))
 unfolding product turn least greatest smaller larger times is_at_most
-thousand_turns = record { ends = (record { cross = omega (arith, ints) }, record { cross = omega (arith, ints) }) }
+thousand_turns = record { endpoints = (record { cross = omega (arith, ints) }, record { cross = omega (arith, ints) }) }
 
 floor_between : (i : Interval) (v : ℤ) → IsProper i → i ⊆ between (whole (pos 0)) (whole (pos 360000)) → cell_at integers i ≡ Some v → (pos 0 ≤ℤ v)
     × (v ≤ℤ pos 360000)
@@ -159,8 +159,8 @@ unfolding cell_at cell_of
 floor_between everything v p h e = absurd (cc)
 floor_between (between a b) v p h e =
     let w = when_some (int_eq (floor a) (floor b)) (floor a) v e in
-    let l = floor_mono _ _ h.ends.0 in
-    let u = floor_mono _ _ (le_trans _ _ _ p h.ends.1) in
+    let l = floor_mono _ _ h.endpoints.0 in
+    let u = floor_mono _ _ (le_trans _ _ _ p h.endpoints.1) in
     (omega (arith, ints, w.1), omega (arith, ints, w.1))
 
 -- a value of the sun's lies from 0 to 360,000

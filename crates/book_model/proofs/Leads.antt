@@ -8,7 +8,7 @@ use Rattle.book_model.specs.declared.fail.Undecided.{Undecided}
 use Rattle.book_model.specs.declared.fail.Fail.{Fail}
 use Rattle.book_model.specs.declared.fail.Fail.TheVariants.{Undecided as undecided_at, Void}
 use Rattle.book_model.specs.numbers.Expressions.{Expression, World, value}
-use Rattle.book_model.specs.programs.Leading.{IsOpenCell, IsOpenComparison, IsOpen, open_cell, open_comparison, Exact, next_turn, Reports, passes, answers, stops, stops_early, voids, Leads, Continues, leaf_of, leaf}
+use Rattle.book_model.specs.programs.Leading.{IsUndecidedCell, IsUndecidedComparison, IsOpen, open_cell, undecided_comparison, Exact, next_turn, Reports, passes, answers, stops, stops_early, voids, Leads, Continues, leaf_of, leaf}
 use Rattle.book_model.specs.programs.Programs.{Grid, cell_at, compare_at, Program, answer, void, cell, compare, bind, Sides, one_side, two_sides, in_cell, is_less, Run, answered, voided, undecided, decided, after_cell, after_compare, run, valued, void_at, outcome, MakesTest, here_decided, here_undecided, later, AtMost, answer_at_most, void_at_most, cell_at_most, compare_at_most}
 use Rattle.book_model.specs.numbers.Relations.{Within, Lies}
 use Rattle.book_model.proofs.Nesting.{cell_nested, compare_nested}
@@ -91,11 +91,11 @@ cell_stop R g i None n a u e d c = stops e d c
 cell_stop R g i (Some q) n a u e d c = stops_early e d c
 
 -- a cell test that the code leaves undecided
-pub leads_open_cell : {A T : Type 0} {w : World} {R : A → T → Type 0} (g : Grid) (x : Expression) (j : Interval) (next : ℤ → Program A) {b : ℕ} (a : ℕ)
+pub leads_undecided_cell : {A T : Type 0} {w : World} {R : A → T → Type 0} (g : Grid) (x : Expression) (j : Interval) (next : ℤ → Program A) {b : ℕ} (a : ℕ)
     (u : Undecided) →
-    value w x ⊆ j → u.turn ≡ next_turn b → a ≡ next_turn b → IsOpenCell g j u.lo u.hi → Leads w R (cell u.site g x next) b a (Err (undecided_at u))
+    value w x ⊆ j → u.turn ≡ next_turn b → a ≡ next_turn b → IsUndecidedCell g j u.lo u.hi → Leads w R (cell u.site g x next) b a (Err (undecided_at u))
 unfolding run
-leads_open_cell {w = w} {R = R} g x j next a u i e d c = record
+leads_undecided_cell {w = w} {R = R} g x j next a u i e d c = record
     { reports = cell_stop R g (value w x) (cell_at g (value w x)) (λ q. run w (next q)) a u e d (open_cell j i c) }
 
 -- a comparison that the code decides, at enclosures j and k of the two values
@@ -115,13 +115,13 @@ compare_stop R i j None n a u e d c = stops e d c
 compare_stop R i j (Some t) n a u e d c = stops_early e d c
 
 -- a comparison that the code leaves undecided
-pub leads_open_compare : {A T : Type 0} {w : World} {R : A → T → Type 0} (x y : Expression) (j k : Interval) (next : Bool → Program A) {b : ℕ} (a : ℕ)
+pub leads_undecided_compare : {A T : Type 0} {w : World} {R : A → T → Type 0} (x y : Expression) (j k : Interval) (next : Bool → Program A) {b : ℕ} (a : ℕ)
     (u : Undecided) →
-    value w x ⊆ j → value w y ⊆ k → u.turn ≡ next_turn b → a ≡ next_turn b → IsOpenComparison j k u.lo u.hi
+    value w x ⊆ j → value w y ⊆ k → u.turn ≡ next_turn b → a ≡ next_turn b → IsUndecidedComparison j k u.lo u.hi
     → Leads w R (compare u.site x y next) b a (Err (undecided_at u))
 unfolding run
-leads_open_compare {w = w} {R = R} x y j k next a u i l e d c =
-    record { reports = compare_stop R (value w x) (value w y) (compare_at (value w x) (value w y)) (λ t. run w (next t)) a u e d (open_comparison j k i l c) }
+leads_undecided_compare {w = w} {R = R} x y j k next a u i l e d c =
+    record { reports = compare_stop R (value w x) (value w y) (compare_at (value w x) (value w y)) (λ t. run w (next t)) a u e d (undecided_comparison j k i l c) }
 
 -- what holds of the value, where an enclosure holds the expression
 pub lies : {E : Type 0} {shown : E → Interval} {w : World} {x : Expression} {e : E} → Within shown w x e → value w x ⊆ shown e

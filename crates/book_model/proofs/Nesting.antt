@@ -46,18 +46,18 @@ cell_between g m v l u q p k r e f =
     let d : int_eq (cell_of g l) (cell_of g u) ≡ true = (Decides-int_eq _ _).1 (s ∙ sym t) in
     rw (d, s) refl
 
-cell_ends : (g : Grid) (i j : Interval) (q : ℤ) → IsProper i → AreWithin i j → cell_at g j ≡ Some q → cell_at g i ≡ Some q
+cell_endpoints : (g : Grid) (i j : Interval) (q : ℤ) → IsProper i → AreWithin i j → cell_at g j ≡ Some q → cell_at g i ≡ Some q
 unfolding cell_at
-cell_ends g i everything q p h e = cc
-cell_ends g everything (between c d) q p h e = absurd h
-cell_ends g (between a b) (between c d) q p h e =
+cell_endpoints g i everything q p h e = cc
+cell_endpoints g everything (between c d) q p h e = absurd h
+cell_endpoints g (between a b) (between c d) q p h e =
     let w = when_some _ _ q e in
     let s = (Decides-int_eq (cell_of g c) (cell_of g d)).0 w.0 in
     cell_between g c d a b q h.0 p h.1 w.1 (sym s ∙ w.1)
 
 -- a cell test that is decided is decided alike for a narrower side
 pub cell_nested : (g : Grid) (i j : Interval) (q : ℤ) → IsProper i → i ⊆ j → cell_at g j ≡ Some q → cell_at g i ≡ Some q
-cell_nested g i j q p h e = cell_ends g i j q p h.ends e
+cell_nested g i j q p h e = cell_endpoints g i j q p h.endpoints e
 
 at_most_yes : (a b : Fraction) → a ≤F b → is_at_most a b ≡ true
 unfolding is_at_most
@@ -99,10 +99,10 @@ compare_no : (a b c d : Fraction) → is_at_most c b ≡ true → is_at_most d a
 unfolding compare_at
 compare_no a b c d e f = rw (e, f) refl
 
-compare_ends : (a b c d k l m n : Fraction) (t : Bool) → a ≤F b → c ≤F d → k ≤F a → b ≤F l → m ≤F c → d ≤F n → IsDecided k l m n t
+compare_endpoints : (a b c d k l m n : Fraction) (t : Bool) → a ≤F b → c ≤F d → k ≤F a → b ≤F l → m ≤F c → d ≤F n → IsDecided k l m n t
     → compare_at (between a b) (between c d) ≡ Some t
-compare_ends a b c d k l m n true p q ka bl mc dn (all_below e) = compare_yes a b c d (not_at_most c b m l mc bl e)
-compare_ends a b c d k l m n false p q ka bl mc dn (none_below e h) =
+compare_endpoints a b c d k l m n true p q ka bl mc dn (all_below e) = compare_yes a b c d (not_at_most c b m l mc bl e)
+compare_endpoints a b c d k l m n false p q ka bl mc dn (none_below e h) =
     let da = le_trans d n a dn (le_trans n k a h ka) in
     compare_no a b c d (at_most_yes c b (le_trans c d b q (le_trans d a b da p))) (at_most_yes d a da)
 
@@ -113,11 +113,11 @@ compare_sides i j (between c d) everything t p q h g e = cc
 compare_sides everything j (between c d) (between c' d') t p q h g e = absurd h
 compare_sides (between a b) everything (between c d) (between c' d') t p q h g e = absurd g
 compare_sides (between a b) (between a' b') (between c d) (between c' d') t p q h g e =
-    compare_ends a b a' b' c d c' d' t p q h.0 h.1 g.0 g.1 (compare_says c d c' d' t e)
+    compare_endpoints a b a' b' c d c' d' t p q h.0 h.1 g.0 g.1 (compare_says c d c' d' t e)
 
 -- a comparison that is decided is decided alike for narrower sides
 pub compare_nested : (i j k l : Interval) (t : Bool) → IsProper i → IsProper j → i ⊆ k → j ⊆ l → compare_at k l ≡ Some t → compare_at i j ≡ Some t
-compare_nested i j k l t p q h g e = compare_sides i j k l t p q h.ends g.ends e
+compare_nested i j k l t p q h g e = compare_sides i j k l t p q h.endpoints g.endpoints e
 
 -- ---- runs refine runs in wider worlds
 refine_cell : {A : Type 0} (s : Site) (g : Grid) (i j : Interval) (p q : Option ℤ) (f h : ℤ → Run A) → i ⊆ j →

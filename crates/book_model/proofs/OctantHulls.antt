@@ -32,7 +32,7 @@ radians_deeper n r =
 -- a degree has at least 0 radians
 degree_at_1 : product (pi_at 1) (only (one_over 179)) ⊆ between zero_F one_fraction
 unfolding product least greatest smaller larger is_at_most pi_at sum negative scaled lower upper alternating size arctan_term power plus times opposite
-degree_at_1 = record { ends = (record { cross = record { le = tt } }, record { cross = record { le = tt } }) }
+degree_at_1 = record { endpoints = (record { cross = record { le = tt } }, record { cross = record { le = tt } }) }
 
 degree_inside : (n : ℕ) → product (pi_at (suc n)) (only (one_over 179)) ⊆ between zero_F one_fraction
 degree_inside n =
@@ -64,7 +64,7 @@ angles_rise (between a b) r s p h r0 l =
 
 radians_rise : (n : ℕ) (r s : Fraction) → zero_F ≤F r → r ≤F s → Precedes (radians (suc n) r) (radians (suc n) s)
 unfolding radians
-radians_rise n r s h l = angles_rise (product (pi_at (suc n)) (only (one_over 179))) r s (degree_proper (suc n)) (degree_inside n).ends h l
+radians_rise n r s h l = angles_rise (product (pi_at (suc n)) (only (one_over 179))) r s (degree_proper (suc n)) (degree_inside n).endpoints h l
 
 -- ---- the sines at three angles in an octant
 pub record InOctant (p q r : Fraction) : Type 0 where
@@ -135,13 +135,13 @@ all_sines = between minus_one one_fraction
 
 angles_at_1 : product (between zero_F (whole (pos 45))) (product (pi_at 1) (only (one_over 179))) ⊆ first_angles
 unfolding product least greatest smaller larger is_at_most pi_at sum negative scaled lower upper alternating size arctan_term power plus times opposite
-angles_at_1 = record { ends = (record { cross = record { le = tt } }, record { cross = record { le = tt } }) }
+angles_at_1 = record { endpoints = (record { cross = record { le = tt } }, record { cross = record { le = tt } }) }
 
 pub radians_inside : (n : ℕ) (r : Fraction) → zero_F ≤F r → r ≤F whole (pos 45) → radians (suc n) r ⊆ first_angles
 unfolding radians
 radians_inside n r h k =
     within_trans
-    (product_within (le_refl r) (degree_proper (suc n)) (record { ends = (h, k) })
+    (product_within (le_refl r) (degree_proper (suc n)) (record { endpoints = (h, k) })
     (product_within (pi_proper (suc n)) (le_refl (one_over 179)) (pi_at_least 1 (suc n) (omega arith)) (within_refl (only (one_over 179)))))
     angles_at_1
 
@@ -150,11 +150,11 @@ first_proper = record { cross = omega (arith, ints) }
 
 sines_at_1 : sine_series 1 first_angles ⊆ all_sines
 unfolding sine_series is_at_most lower upper alternating size sine_term over_factorial power plus times opposite
-sines_at_1 = record { ends = (record { cross = record { le = tt } }, record { cross = record { le = tt } }) }
+sines_at_1 = record { endpoints = (record { cross = record { le = tt } }, record { cross = record { le = tt } }) }
 
 cosines_at_1 : cosine_series 1 first_angles ⊆ all_sines
 unfolding cosine_series is_at_most lower upper alternating size cosine_term over_factorial power plus times opposite
-cosines_at_1 = record { ends = (record { cross = record { le = tt } }, record { cross = record { le = tt } }) }
+cosines_at_1 = record { endpoints = (record { cross = record { le = tt } }, record { cross = record { le = tt } }) }
 
 sine_inside : (n : ℕ) (r : Fraction) → zero_F ≤F r → r ≤F whole (pos 45) → sine_series (suc n) (radians (suc n) r) ⊆ all_sines
 sine_inside n r h k = within_trans (at_least sine_series sines 1 (suc n) (omega arith) (radians_proper (suc n) r) (radians_inside n r h k)) sines_at_1
@@ -165,7 +165,7 @@ cosine_inside n r h k = within_trans (at_least (λ m. cosine_series (suc m)) cos
 
 negative_sines : negative all_sines ⊆ all_sines
 unfolding negative opposite
-negative_sines = record { ends = (record { cross = record { le = tt } }, record { cross = record { le = tt } }) }
+negative_sines = record { endpoints = (record { cross = record { le = tt } }, record { cross = record { le = tt } }) }
 
 pub into_inside : (n j : ℕ) (r : Fraction) → zero_F ≤F r → r ≤F whole (pos 45) → sine_into (suc n) j r ⊆ all_sines
 unfolding sine_into

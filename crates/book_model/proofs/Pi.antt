@@ -7,28 +7,28 @@ use Rattle.exact_math.specs.Sums.{one_over, lower, upper, alternating}
 use Rattle.exact_math.proofs.Ring.{at, lit, ◌⊗◌}
 use Rattle.exact_math.proofs.Intervals.{within_trans, within_refl, sum_within, negative_within, plus_proper, negative_proper}
 use Rattle.exact_math.proofs.Certificates.{◌≼◌, known, ◌⊠◌, le_by}
-use Rattle.exact_math.proofs.Alternating.{sums_nested, sum_ends_in_order}
+use Rattle.exact_math.proofs.Alternating.{sums_nested, sum_endpoints_in_order}
 use Rattle.book_model.specs.numbers.Series.{arctan_term, arctan_at, scaled, pi_at}
 use Rattle.book_model.proofs.Terms.{IsUpTo, arctan_halving, one_over_nonneg, one_over_small}
 
-interval_ends : (k : ℕ) (i j : Interval) → AreWithin i j → AreWithin (scaled k i) (scaled k j)
+interval_endpoints : (k : ℕ) (i j : Interval) → AreWithin i j → AreWithin (scaled k i) (scaled k j)
 unfolding scaled
-interval_ends k i everything h = tt
-interval_ends k everything (between c d) h = absurd h
-interval_ends k (between a b) (between c d) h = (by_natural c a h.0, by_natural b d h.1)
+interval_endpoints k i everything h = tt
+interval_endpoints k everything (between c d) h = absurd h
+interval_endpoints k (between a b) (between c d) h = (by_natural c a h.0, by_natural b d h.1)
   where
     by_natural : (x y : Fraction) → x ≤F y → times (whole (pos k)) x ≤F times (whole (pos k)) y
     by_natural x y h = le_by (whole (pos k) ∷ x ∷ y ∷ []) ((lit (pos 0) ≼ at 0) ∷ (at 1 ≼ at 2) ∷ []) (at 0 ⊗ at 1) (at 0 ⊗ at 2) (known 0 ⊠ known 1) refl
         (record { cross = omega (arith, ints) }, (h, tt))
 
 pub scaled_within : (k : ℕ) {i j : Interval} → i ⊆ j → scaled k i ⊆ scaled k j
-scaled_within k {i} {j} h = record { ends = interval_ends k i j h.ends }
+scaled_within k {i} {j} h = record { endpoints = interval_endpoints k i j h.endpoints }
 
 pub small_one_over : (n : ℕ) → 1 ≤ n → IsUpTo 1 2 (one_over n)
 small_one_over n h = record { nonneg = one_over_nonneg n; bound = one_over_small 1 n h }
 
 arctan_deeper : (n : ℕ) (x : Fraction) → IsUpTo 1 2 x → arctan_at (suc n) x ⊆ arctan_at n x
-arctan_deeper n x w = let h = sums_nested n (arctan_term x) (arctan_halving x w) in record { ends = (h.0, h.1) }
+arctan_deeper n x w = let h = sums_nested n (arctan_term x) (arctan_halving x w) in record { endpoints = (h.0, h.1) }
 
 pub pi_deeper : (n : ℕ) → pi_at (suc n) ⊆ pi_at n
 unfolding pi_at
@@ -51,7 +51,7 @@ scaled_proper k (between a b) p = le_by (whole (pos k) ∷ a ∷ b ∷ []) ((lit
     refl (record { cross = omega (arith, ints) }, (p, tt))
 
 arctan_proper : (n m : ℕ) → 1 ≤ m → IsProper (arctan_at n (one_over m))
-arctan_proper n m h = sum_ends_in_order n (arctan_term (one_over m)) ((arctan_halving (one_over m) (small_one_over m h)).nonneg (suc n))
+arctan_proper n m h = sum_endpoints_in_order n (arctan_term (one_over m)) ((arctan_halving (one_over m) (small_one_over m h)).nonneg (suc n))
 
 pub pi_proper : (n : ℕ) → IsProper (pi_at n)
 unfolding pi_at
@@ -66,7 +66,7 @@ binary n = record { num = pos n; below = 2 ^ 56 - 1 }
 
 pi_at_12 : pi_at 12 ⊆ between (binary 226375608064910088) (binary 226375608064910089)
 unfolding pi_at sum scaled negative lower upper alternating size arctan_term power plus times opposite
-pi_at_12 = record { ends = (record { cross = record { le = tt } }, record { cross = record { le = tt } }) }
+pi_at_12 = record { endpoints = (record { cross = record { le = tt } }, record { cross = record { le = tt } }) }
 
 pub pi_number : (n : ℕ) → 12 ≤ n → pi_at n ⊆ between (binary 226375608064910088) (binary 226375608064910089)
 pi_number n h = within_trans (pi_at_least 12 n h) pi_at_12

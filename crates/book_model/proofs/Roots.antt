@@ -248,19 +248,19 @@ unfolding root_of
 root_proper n everything p = tt
 root_proper n (between a b) p = le_trans _ _ _ (low_mono n a b p) (low_high n b)
 
-root_ends : (n : ℕ) (i j : Interval) → AreWithin i j → AreWithin (root_of n i) (root_of n j)
+root_endpoints : (n : ℕ) (i j : Interval) → AreWithin i j → AreWithin (root_of n i) (root_of n j)
 unfolding root_of
-root_ends n i everything h = tt
-root_ends n everything (between c d) h = absurd h
-root_ends n (between a b) (between c d) h = (low_mono n c a h.0, high_mono n b d h.1)
+root_endpoints n i everything h = tt
+root_endpoints n everything (between c d) h = absurd h
+root_endpoints n (between a b) (between c d) h = (low_mono n c a h.0, high_mono n b d h.1)
 
 pub root_within : (n : ℕ) {i j : Interval} → i ⊆ j → root_of n i ⊆ root_of n j
-root_within n {i} {j} h = record { ends = root_ends n i j h.ends }
+root_within n {i} {j} h = record { endpoints = root_endpoints n i j h.endpoints }
 
 root_deeper : (n : ℕ) (i : Interval) → root_of (suc n) i ⊆ root_of n i
 unfolding root_of
-root_deeper n everything = record { ends = tt }
-root_deeper n (between a b) = record { ends = (low_rises n a, high_falls n b) }
+root_deeper n everything = record { endpoints = tt }
+root_deeper n (between a b) = record { endpoints = (low_rises n a, high_falls n b) }
 
 pub roots : Narrowing root_of
 roots = record { proper = root_proper; within = λ n {i} {j} p h. root_within n h; deeper = λ n i p. root_deeper n i }

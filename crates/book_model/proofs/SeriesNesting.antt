@@ -9,7 +9,7 @@ use Rattle.exact_math.proofs.Intervals.{within_trans, within_everything}
 use Rattle.exact_math.proofs.Certificates.{zero_F}
 use Rattle.exact_math.proofs.Hulls.{true_at_most}
 use Rattle.exact_math.proofs.Narrowing.{Narrowing}
-use Rattle.exact_math.proofs.Alternating.{sums_nested, later_sums_nested, lower_rises, upper_rises, lower_falls, upper_falls, sum_ends_in_order}
+use Rattle.exact_math.proofs.Alternating.{sums_nested, later_sums_nested, lower_rises, upper_rises, lower_falls, upper_falls, sum_endpoints_in_order}
 use Rattle.book_model.specs.numbers.Series.{is_inside, sine_term, cosine_term, four_fifths, sine_series, cosine_series}
 use Rattle.book_model.proofs.Terms.{IsUpTo, sine_halving, sine_rising, cosine_halving, cosine_falling}
 
@@ -29,7 +29,7 @@ inside_in lo hi a b h = rw (true_at_most lo a h.above, true_at_most b hi h.below
 
 -- an interval or, where the test fails, everything
 pub by_guard : (s t : Bool) (i j : Interval) → (t ≡ true → (s ≡ true) × (i ⊆ j)) → cond s i everything ⊆ cond t j everything
-by_guard s false i j h = record { ends = tt }
+by_guard s false i j h = record { endpoints = tt }
 by_guard true true i j h = (h refl).1
 by_guard false true i j h = absurd (let e = (h refl).0 in cc)
 
@@ -74,29 +74,29 @@ pub sine_uppers : (n : ℕ) (x y : Fraction) → IsUpTo 4 5 x → IsUpTo 4 5 y �
 sine_uppers n x y w v h = upper_rises n (sine_term x) (sine_term y) ((sine_halving x w).nonneg (suc n)) ((sine_halving y v).nonneg (suc n))
     (sine_rising x y w v h)
 
-sine_ends : (n : ℕ) (i j : Interval) → IsProper i → AreWithin i j → sine_series n i ⊆ sine_series n j
+sine_endpoints : (n : ℕ) (i j : Interval) → IsProper i → AreWithin i j → sine_series n i ⊆ sine_series n j
 unfolding sine_series
-sine_ends n i everything p h = record { ends = tt }
-sine_ends n everything (between c d) p h = absurd h
-sine_ends n (between a b) (between c d) p h =
+sine_endpoints n i everything p h = record { endpoints = tt }
+sine_endpoints n everything (between c d) p h = absurd h
+sine_endpoints n (between a b) (between c d) p h =
     by_guard (is_inside zero_F four_fifths a b) (is_inside zero_F four_fifths c d) _ _ λ t.
     let i = inside_out zero_F four_fifths c d t in
     let w = points a b c d p h i in (
       narrower_inside zero_F four_fifths a b c d h i,
-      record { ends = (sine_lowers n c a w.c_nonneg w.a_in w.low, sine_uppers n b d w.b_in w.d_in w.high) },
+      record { endpoints = (sine_lowers n c a w.c_nonneg w.a_in w.low, sine_uppers n b d w.b_in w.d_in w.high) },
     )
 
 pub sine_within : (n : ℕ) {i j : Interval} → IsProper i → i ⊆ j → sine_series n i ⊆ sine_series n j
-sine_within n {i} {j} p h = sine_ends n i j p h.ends
+sine_within n {i} {j} p h = sine_endpoints n i j p h.endpoints
 
 pub sine_deeper : (n : ℕ) (i : Interval) → IsProper i → sine_series (suc n) i ⊆ sine_series n i
 unfolding sine_series
-sine_deeper n everything p = record { ends = tt }
+sine_deeper n everything p = record { endpoints = tt }
 sine_deeper n (between a b) p =
     by_guard (is_inside zero_F four_fifths a b) (is_inside zero_F four_fifths a b) _ _ λ t.
     let i = inside_out zero_F four_fifths a b t in
     let w = points a b a b p (le_refl a, le_refl b) i in
-    (t, record { ends = ((sums_nested n (sine_term a) (sine_halving a w.a_in)).0, (sums_nested n (sine_term b) (sine_halving b w.b_in)).1) })
+    (t, record { endpoints = ((sums_nested n (sine_term a) (sine_halving a w.a_in)).0, (sums_nested n (sine_term b) (sine_halving b w.b_in)).1) })
 
 pub sine_narrows : (n : ℕ) {i j : Interval} → IsProper i → i ⊆ j → sine_series (suc n) i ⊆ sine_series n j
 sine_narrows n {i} {j} p h = within_trans (sine_deeper n i p) (sine_within n p h)
@@ -110,31 +110,31 @@ pub cosine_uppers : (n : ℕ) (x y : Fraction) → IsUpTo 4 5 x → IsUpTo 4 5 y
 cosine_uppers n x y w v h = upper_falls n (cosine_term x) (cosine_term y) ((cosine_halving x w).nonneg (suc n)) ((cosine_halving y v).nonneg (suc n))
     (cosine_falling x y w v h)
 
-cosine_ends : (n : ℕ) (i j : Interval) → IsProper i → AreWithin i j → cosine_series (suc n) i ⊆ cosine_series (suc n) j
+cosine_endpoints : (n : ℕ) (i j : Interval) → IsProper i → AreWithin i j → cosine_series (suc n) i ⊆ cosine_series (suc n) j
 unfolding cosine_series
-cosine_ends n i everything p h = record { ends = tt }
-cosine_ends n everything (between c d) p h = absurd h
-cosine_ends n (between a b) (between c d) p h =
+cosine_endpoints n i everything p h = record { endpoints = tt }
+cosine_endpoints n everything (between c d) p h = absurd h
+cosine_endpoints n (between a b) (between c d) p h =
     by_guard (is_inside zero_F four_fifths a b) (is_inside zero_F four_fifths c d) _ _ λ t.
     let i = inside_out zero_F four_fifths c d t in
     let w = points a b c d p h i in (
       narrower_inside zero_F four_fifths a b c d h i,
-      record { ends = (cosine_lowers n b d w.b_in w.d_in w.high, cosine_uppers n c a w.c_nonneg w.a_in w.low) },
+      record { endpoints = (cosine_lowers n b d w.b_in w.d_in w.high, cosine_uppers n c a w.c_nonneg w.a_in w.low) },
     )
 
 pub cosine_within : (n : ℕ) {i j : Interval} → IsProper i → i ⊆ j → cosine_series (suc n) i ⊆ cosine_series (suc n) j
-cosine_within n {i} {j} p h = cosine_ends n i j p h.ends
+cosine_within n {i} {j} p h = cosine_endpoints n i j p h.endpoints
 
 pub cosine_deeper : (n : ℕ) (i : Interval) → IsProper i → cosine_series (suc (suc n)) i ⊆ cosine_series (suc n) i
 unfolding cosine_series
-cosine_deeper n everything p = record { ends = tt }
+cosine_deeper n everything p = record { endpoints = tt }
 cosine_deeper n (between a b) p =
     by_guard (is_inside zero_F four_fifths a b) (is_inside zero_F four_fifths a b) _ _ λ t.
     let i = inside_out zero_F four_fifths a b t in
     let w = points a b a b p (le_refl a, le_refl b) i in (
       t,
       record {
-        ends = (
+        endpoints = (
           (later_sums_nested n (cosine_term b) (cosine_halving b w.b_in)).0,
           (later_sums_nested n (cosine_term a) (cosine_halving a w.a_in)).1,
         );
@@ -157,7 +157,7 @@ sine_proper n (between a b) p =
     let w = points a b a b p (le_refl a, le_refl b) (inside_out zero_F four_fifths a b t) in
     le_trans (lower (sine_term a) n) (lower (sine_term b) n) (upper (sine_term b) n)
     (sine_lowers n a b w.a_in w.b_in p)
-    (sum_ends_in_order n (sine_term b) ((sine_halving b w.b_in).nonneg (suc n)))
+    (sum_endpoints_in_order n (sine_term b) ((sine_halving b w.b_in).nonneg (suc n)))
 
 pub cosine_proper : (n : ℕ) (i : Interval) → IsProper i → IsProper (cosine_series (suc n) i)
 unfolding cosine_series
@@ -167,7 +167,7 @@ cosine_proper n (between a b) p =
     let w = points a b a b p (le_refl a, le_refl b) (inside_out zero_F four_fifths a b t) in
     le_trans (lower (cosine_term b) (suc n)) (lower (cosine_term a) (suc n)) (upper (cosine_term a) (suc n))
     (cosine_lowers n a b w.a_in w.b_in p)
-    (sum_ends_in_order (suc n) (cosine_term a) ((cosine_halving a w.a_in).nonneg (suc n)))
+    (sum_endpoints_in_order (suc n) (cosine_term a) ((cosine_halving a w.a_in).nonneg (suc n)))
 
 pub sines : Narrowing sine_series
 sines = record { proper = sine_proper; within = sine_within; deeper = sine_deeper }
@@ -220,7 +220,7 @@ sine_between n p (preceding {a = a} {b = b} {c = c} {d = d} ac bd) (preceding {c
     let w = three a b c d e f ac p df s t in (
       w.inner,
       record {
-        ends = (
+        endpoints = (
           le_trans _ _ _ (smaller_first _ _) (sine_lowers n a c w.a_in w.c_in ac),
           le_trans _ _ _ (sine_uppers n d f w.d_in w.f_in df) (larger_second _ _),
         );
@@ -235,7 +235,7 @@ cosine_between n p (preceding {a = a} {b = b} {c = c} {d = d} ac bd) (preceding 
     let w = three a b c d e f ac p df s t in (
       w.inner,
       record {
-        ends = (
+        endpoints = (
           le_trans _ _ _ (smaller_second _ _) (cosine_lowers n d f w.d_in w.f_in df),
           le_trans _ _ _ (cosine_uppers n a c w.a_in w.c_in ac) (larger_first _ _),
         );

@@ -105,15 +105,15 @@ later_low a b z h = (grind (arith, ints, h), grind (arith, ints, h))
 later_least : (a b z : ℤ) → a ≤ℤ z → b ≤ℤ z → later a b ≤ℤ z
 later_least a b z h k = grind (arith, ints, h, k)
 
-between_ends : (lo hi z : ℤ) → lo ≤ℤ z → z ≤ℤ hi → is_between lo hi z ≡ true
-between_ends lo hi z h k = grind (arith, ints, h, k)
+between_endpoints : (lo hi z : ℤ) → lo ≤ℤ z → z ≤ℤ hi → is_between lo hi z ≡ true
+between_endpoints lo hi z h k = grind (arith, ints, h, k)
 
 -- a day that a line of a version may name is one of the version's days
 pub reached_day : (version : Version) (from : FromWord) (to : ToWord) (day : ℤ) → IsTrue (is_reached version from to day)
     → IsTrue (is_between (days_in version).0 (days_in version).1 day)
 reached_day version from to day h =
     let l = lies (reach_of version from to).0 (reach_of version from to).1 day h in
-    between_ends (days_in version).0 (days_in version).1 day (later_low (days_in version).0 _ day l.0).0 l.1
+    between_endpoints (days_in version).0 (days_in version).1 day (later_low (days_in version).0 _ day l.0).0 l.1
 
 -- and one from the first day on of which there is what its words are about
 pub told_from : (version : Version) (from : FromWord) (to : ToWord) (day : ℤ) → IsTrue (is_reached version from to day)
@@ -129,10 +129,10 @@ later_days version from to day h =
     let words = later (first_day_of (named_by from)) (first_day_of (shown_by to)) in
     let l = lies (reach_of version from to).0 (reach_of version from to).1 day h in
     let from_first = later_low (days_in version).0 words day l.0 in
-    let here = between_ends (days_in version).0 (days_in version).1 day from_first.0 l.1 in
+    let here = between_endpoints (days_in version).0 (days_in version).1 day from_first.0 l.1 in
     let wide = in_widest (range_in WRITTEN line_days) line_days (version_number version) day days_widest here in
     let k = lies (days_in WRITTEN).0 (days_in WRITTEN).1 day wide in
-    between_ends (later (days_in WRITTEN).0 words) (days_in WRITTEN).1 day (later_least (days_in WRITTEN).0 words day k.0 from_first.1) k.1
+    between_endpoints (later (days_in WRITTEN).0 words) (days_in WRITTEN).1 day (later_least (days_in WRITTEN).0 words day k.0 from_first.1) k.1
 
 day_later : (version : Version) (from : FromWord) (to : ToWord) (c : Calendar) (f : Fields) → has_day_in_reach (reach_of version from to) c f ≡ true
     → has_day_in_reach (reach_of WRITTEN from to) c f ≡ true

@@ -42,7 +42,7 @@ pub use fail::{Fail, Undecided};
 pub use frac::Frac;
 pub use horizon::{Location, Twilight};
 pub use moon_terms::{LatitudeTerm, MoonTerm, NewMoonTerm, PlanetTerm};
-pub use polynomial::{Cubic, Quadratic, QuadraticWave, Quartic, Wave};
+pub use polynomial::{Cubic, PeriodicTerm, Quadratic, QuadraticTerm, Quartic};
 pub use request::{Fields, Request, Resolved, Rule};
 pub use season::{Season, Side};
 pub use site::{SITES, Site};

@@ -2,7 +2,7 @@
 //! The source is Reingold and Dershowitz, Calendrical Calculations, chapter 14, after Jean Meeus, Astronomical Algorithms,
 //! chapter 47, who takes them from Chapront-Touzé and Chapront. Angles are in degrees, by the centuries of dynamical time
 //! from noon of 1 January 2000.
-use crate::{Cubic, Frac, LatitudeTerm, MoonTerm, Quadratic, Quartic, Wave};
+use crate::{Cubic, Frac, LatitudeTerm, MoonTerm, PeriodicTerm, Quadratic, Quartic};
 
 /// The mean longitude of the moon.
 #[rattlefmt::skip]
@@ -66,11 +66,11 @@ pub const ECCENTRICITY_FACTOR: Quadratic = Quadratic {
 
 /// What Venus adds to the moon's longitude, in millionths of a degree.
 #[rattlefmt::skip]
-pub const VENUS_WAVE: Wave = Wave { size: 3958, phase: 1_197_500_000, rate: 1_318_490_000 };
+pub const VENUS_TERM: PeriodicTerm = PeriodicTerm { size: 3958, phase: 1_197_500_000, rate: 1_318_490_000 };
 
 /// What Jupiter adds to the moon's longitude, in millionths of a degree.
 #[rattlefmt::skip]
-pub const JUPITER_WAVE: Wave = Wave { size: 318, phase: 530_900_000, rate: 4_792_642_900_000 };
+pub const JUPITER_TERM: PeriodicTerm = PeriodicTerm { size: 318, phase: 530_900_000, rate: 4_792_642_900_000 };
 
 /// What the flattening of the earth adds to the moon's longitude, in millionths of a degree: this times the sine of the
 /// longitude less the argument of latitude.
@@ -160,7 +160,7 @@ pub const FLATTENING_WITH_ANOMALY: i64 = -115;
 
 /// A periodic term of the moon's latitude, in millionths of a degree.
 #[rattlefmt::skip]
-pub const LATITUDE_WAVE: Wave = Wave { size: 382, phase: 3_134_500_000, rate: 4_812_664_840_000 };
+pub const LATITUDE_TERM: PeriodicTerm = PeriodicTerm { size: 382, phase: 3_134_500_000, rate: 4_812_664_840_000 };
 
 /// The terms of the moon's latitude: the multiples of the four angles, and what the sine of their sum adds, in millionths of a
 /// degree.

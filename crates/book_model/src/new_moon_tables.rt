@@ -3,7 +3,7 @@
 //! Angles are in degrees. The polynomials are by the time in units of 1236.85 months from the new moon of January 2000,
 //! which are centuries; what grows by a month is multiplied by 1236.85.
 use crate::calendar_tables::SYNODIC_MONTH;
-use crate::{Frac, NewMoonTerm, PlanetTerm, Quadratic, QuadraticWave};
+use crate::{Frac, NewMoonTerm, PlanetTerm, Quadratic, QuadraticTerm};
 
 /// The number of the new moon of January 2000, counted from that of January of the year 1.
 pub const NEW_MOON_OF_2000: i64 = 24_724;
@@ -87,7 +87,7 @@ pub const NODE_TERM: Frac = Frac { num: -17, den: 100_000 };
 
 /// What Venus adds to a new moon, in days.
 #[rattlefmt::skip]
-pub const NEW_MOON_WAVE: QuadraticWave = QuadraticWave {
+pub const NEW_MOON_TERM: QuadraticTerm = QuadraticTerm {
     size: Frac { num: 325, den: 1_000_000 },
     angle: Quadratic {
         constant: Frac { num: 29_977, den: 100 },

@@ -1,6 +1,6 @@
 //! A slow plain program beside a definition: ΔT of a year in exact decimals, to compare with tables.
 //!
-//! The other such program is `write_text` of printed_rows, whose contract is the text.
+//! The other such program is `write_text` of conversion, whose contract is the text.
 ghost use Rattle.std.specs.Prelude.{◌≡◌, ◌≤◌, ◌<◌, ◌*◌, ◌-◌, ◌^◌, suc, ℤ, ℕ, pos, ◌-ℤ◌, ◌≤ℤ◌, length, IfSome};
 ghost use Rattle.exact_math.specs.Fraction.{◌≈◌, whole, times};
 ghost use Rattle.book_model.specs.numbers.Expressions.{World, value};

@@ -23,7 +23,7 @@ pub struct Cubic {
 /// A periodic term in time: its size times the sine of its phase and its rate times the time. The phase is in
 /// ten-millionths of a degree, the rate in the same a century, and the size in a unit of its table.
 #[derive(Clone, Copy)]
-pub struct Wave {
+pub struct PeriodicTerm {
     pub size: i64,
     pub phase: i64,
     pub rate: i64,
@@ -31,7 +31,7 @@ pub struct Wave {
 
 /// A periodic term whose angle is quadratic in time: its size times the sine of the angle, in degrees.
 #[derive(Clone, Copy)]
-pub struct QuadraticWave {
+pub struct QuadraticTerm {
     pub size: Frac,
     pub angle: Quadratic,
 }

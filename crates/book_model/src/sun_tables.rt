@@ -2,11 +2,11 @@
 //! all is Reingold and Dershowitz, Calendrical Calculations, chapter 14. Angles are in degrees, rates in degrees a
 //! century.
 use crate::calendar_tables::{SIDEREAL_YEAR, TROPICAL_YEAR};
-use crate::{Cubic, Frac, Quadratic, QuadraticWave, Wave};
+use crate::{Cubic, Frac, PeriodicTerm, Quadratic, QuadraticTerm};
 
 /// The nutation in longitude by the moon's node.
 #[rattlefmt::skip]
-pub const NODE_NUTATION: QuadraticWave = QuadraticWave {
+pub const NODE_NUTATION: QuadraticTerm = QuadraticTerm {
     size: Frac { num: -4778, den: 1_000_000 },
     angle: Quadratic {
         constant: Frac { num: 1249, den: 10 },
@@ -17,7 +17,7 @@ pub const NODE_NUTATION: QuadraticWave = QuadraticWave {
 
 /// The nutation in longitude by twice the sun's mean longitude.
 #[rattlefmt::skip]
-pub const SOLAR_NUTATION: QuadraticWave = QuadraticWave {
+pub const SOLAR_NUTATION: QuadraticTerm = QuadraticTerm {
     size: Frac { num: -3667, den: 10_000_000 },
     angle: Quadratic {
         constant: Frac { num: 20_111, den: 100 },
@@ -28,7 +28,7 @@ pub const SOLAR_NUTATION: QuadraticWave = QuadraticWave {
 
 /// What changes in the aberration, with a cosine for its sine; the size is in ten-millionths of a degree.
 #[rattlefmt::skip]
-pub const ABERRATION: Wave = Wave { size: 974, phase: 1_776_300_000, rate: 359_990_184_800 };
+pub const ABERRATION: PeriodicTerm = PeriodicTerm { size: 974, phase: 1_776_300_000, rate: 359_990_184_800 };
 
 /// What the aberration takes off on an average.
 #[rattlefmt::skip]
@@ -174,54 +174,54 @@ pub const SUN_UNIT_FINELY: Frac = Frac { num: 4_168_060_088, den: 1_000_000_000_
 
 /// The sun's 49 periodic terms, their sizes in units of 0.000005729577951308232 degrees.
 #[rattlefmt::skip]
-pub const SUN_WAVES: [Wave; 49] = [
-    Wave { size: 403_406, phase: 2_705_486_100, rate: 9_287_892 },
-    Wave { size: 195_207, phase: 3_401_912_800, rate: 359_991_376_958 },
-    Wave { size: 119_433, phase: 639_185_400, rate: 359_994_089_666 },
-    Wave { size: 112_392, phase: 3_312_622_000, rate: 359_987_287_385 },
-    Wave { size: 3891, phase: 3_178_430_000, rate: 719_982_026_100 },
-    Wave { size: 2819, phase: 866_310_000, rate: 719_984_403_000 },
-    Wave { size: 1721, phase: 2_400_520_000, rate: 360_003_572_600 },
-    Wave { size: 660, phase: 3_102_600_000, rate: 719_974_812_000 },
-    Wave { size: 350, phase: 2_472_300_000, rate: 329_644_678_000 },
-    Wave { size: 334, phase: 2_608_700_000, rate: -194_410_000 },
-    Wave { size: 314, phase: 2_978_200_000, rate: 4_452_671_117_000 },
-    Wave { size: 268, phase: 3_431_400_000, rate: 450_368_840_000 },
-    Wave { size: 242, phase: 1_667_900_000, rate: 31_008_000 },
-    Wave { size: 234, phase: 815_300_000, rate: 225_184_434_000 },
-    Wave { size: 158, phase: 35_000_000, rate: -199_739_000 },
-    Wave { size: 132, phase: 1_327_500_000, rate: 659_289_345_000 },
-    Wave { size: 129, phase: 1_829_500_000, rate: 90_380_293_000 },
-    Wave { size: 114, phase: 1_620_300_000, rate: 30_347_684_000 },
-    Wave { size: 99, phase: 298_000_000, rate: 337_181_480_000 },
-    Wave { size: 93, phase: 2_664_000_000, rate: 30_344_480_000 },
-    Wave { size: 86, phase: 2_492_000_000, rate: -22_807_730_000 },
-    Wave { size: 78, phase: 1_576_000_000, rate: 299_299_920_000 },
-    Wave { size: 72, phase: 2_578_000_000, rate: 315_564_930_000 },
-    Wave { size: 68, phase: 1_851_000_000, rate: 1_495_880_000 },
-    Wave { size: 64, phase: 699_000_000, rate: 90_377_500_000 },
-    Wave { size: 46, phase: 80_000_000, rate: 1_079_974_050_000 },
-    Wave { size: 38, phase: 1_971_000_000, rate: -44_441_760_000 },
-    Wave { size: 37, phase: 2_504_000_000, rate: 1_517_710_000 },
-    Wave { size: 32, phase: 653_000_000, rate: 675_553_160_000 },
-    Wave { size: 29, phase: 1_627_000_000, rate: 315_560_800_000 },
-    Wave { size: 28, phase: 3_415_000_000, rate: -45_615_400_000 },
-    Wave { size: 27, phase: 2_916_000_000, rate: 1_079_967_060_000 },
-    Wave { size: 27, phase: 985_000_000, rate: 12_216_550_000 },
-    Wave { size: 25, phase: 1_467_000_000, rate: 628_941_670_000 },
-    Wave { size: 24, phase: 1_100_000_000, rate: 314_373_690_000 },
-    Wave { size: 21, phase: 52_000_000, rate: 145_782_980_000 },
-    Wave { size: 21, phase: 3_426_000_000, rate: -319_317_570_000 },
-    Wave { size: 20, phase: 2_309_000_000, rate: 347_772_430_000 },
-    Wave { size: 18, phase: 2_561_000_000, rate: 12_219_990_000 },
-    Wave { size: 17, phase: 453_000_000, rate: 628_945_110_000 },
-    Wave { size: 14, phase: 2_429_000_000, rate: -44_420_390_000 },
-    Wave { size: 13, phase: 1_152_000_000, rate: 1_079_979_090_000 },
-    Wave { size: 13, phase: 1_518_000_000, rate: 1_190_660_000 },
-    Wave { size: 13, phase: 2_853_000_000, rate: 168_590_710_000 },
-    Wave { size: 12, phase: 533_000_000, rate: -45_780_000 },
-    Wave { size: 10, phase: 1_266_000_000, rate: 268_952_920_000 },
-    Wave { size: 10, phase: 2_057_000_000, rate: -391_270_000 },
-    Wave { size: 10, phase: 859_000_000, rate: 122_975_360_000 },
-    Wave { size: 10, phase: 1_461_000_000, rate: 900_737_780_000 },
+pub const SUN_TERMS: [PeriodicTerm; 49] = [
+    PeriodicTerm { size: 403_406, phase: 2_705_486_100, rate: 9_287_892 },
+    PeriodicTerm { size: 195_207, phase: 3_401_912_800, rate: 359_991_376_958 },
+    PeriodicTerm { size: 119_433, phase: 639_185_400, rate: 359_994_089_666 },
+    PeriodicTerm { size: 112_392, phase: 3_312_622_000, rate: 359_987_287_385 },
+    PeriodicTerm { size: 3891, phase: 3_178_430_000, rate: 719_982_026_100 },
+    PeriodicTerm { size: 2819, phase: 866_310_000, rate: 719_984_403_000 },
+    PeriodicTerm { size: 1721, phase: 2_400_520_000, rate: 360_003_572_600 },
+    PeriodicTerm { size: 660, phase: 3_102_600_000, rate: 719_974_812_000 },
+    PeriodicTerm { size: 350, phase: 2_472_300_000, rate: 329_644_678_000 },
+    PeriodicTerm { size: 334, phase: 2_608_700_000, rate: -194_410_000 },
+    PeriodicTerm { size: 314, phase: 2_978_200_000, rate: 4_452_671_117_000 },
+    PeriodicTerm { size: 268, phase: 3_431_400_000, rate: 450_368_840_000 },
+    PeriodicTerm { size: 242, phase: 1_667_900_000, rate: 31_008_000 },
+    PeriodicTerm { size: 234, phase: 815_300_000, rate: 225_184_434_000 },
+    PeriodicTerm { size: 158, phase: 35_000_000, rate: -199_739_000 },
+    PeriodicTerm { size: 132, phase: 1_327_500_000, rate: 659_289_345_000 },
+    PeriodicTerm { size: 129, phase: 1_829_500_000, rate: 90_380_293_000 },
+    PeriodicTerm { size: 114, phase: 1_620_300_000, rate: 30_347_684_000 },
+    PeriodicTerm { size: 99, phase: 298_000_000, rate: 337_181_480_000 },
+    PeriodicTerm { size: 93, phase: 2_664_000_000, rate: 30_344_480_000 },
+    PeriodicTerm { size: 86, phase: 2_492_000_000, rate: -22_807_730_000 },
+    PeriodicTerm { size: 78, phase: 1_576_000_000, rate: 299_299_920_000 },
+    PeriodicTerm { size: 72, phase: 2_578_000_000, rate: 315_564_930_000 },
+    PeriodicTerm { size: 68, phase: 1_851_000_000, rate: 1_495_880_000 },
+    PeriodicTerm { size: 64, phase: 699_000_000, rate: 90_377_500_000 },
+    PeriodicTerm { size: 46, phase: 80_000_000, rate: 1_079_974_050_000 },
+    PeriodicTerm { size: 38, phase: 1_971_000_000, rate: -44_441_760_000 },
+    PeriodicTerm { size: 37, phase: 2_504_000_000, rate: 1_517_710_000 },
+    PeriodicTerm { size: 32, phase: 653_000_000, rate: 675_553_160_000 },
+    PeriodicTerm { size: 29, phase: 1_627_000_000, rate: 315_560_800_000 },
+    PeriodicTerm { size: 28, phase: 3_415_000_000, rate: -45_615_400_000 },
+    PeriodicTerm { size: 27, phase: 2_916_000_000, rate: 1_079_967_060_000 },
+    PeriodicTerm { size: 27, phase: 985_000_000, rate: 12_216_550_000 },
+    PeriodicTerm { size: 25, phase: 1_467_000_000, rate: 628_941_670_000 },
+    PeriodicTerm { size: 24, phase: 1_100_000_000, rate: 314_373_690_000 },
+    PeriodicTerm { size: 21, phase: 52_000_000, rate: 145_782_980_000 },
+    PeriodicTerm { size: 21, phase: 3_426_000_000, rate: -319_317_570_000 },
+    PeriodicTerm { size: 20, phase: 2_309_000_000, rate: 347_772_430_000 },
+    PeriodicTerm { size: 18, phase: 2_561_000_000, rate: 12_219_990_000 },
+    PeriodicTerm { size: 17, phase: 453_000_000, rate: 628_945_110_000 },
+    PeriodicTerm { size: 14, phase: 2_429_000_000, rate: -44_420_390_000 },
+    PeriodicTerm { size: 13, phase: 1_152_000_000, rate: 1_079_979_090_000 },
+    PeriodicTerm { size: 13, phase: 1_518_000_000, rate: 1_190_660_000 },
+    PeriodicTerm { size: 13, phase: 2_853_000_000, rate: 168_590_710_000 },
+    PeriodicTerm { size: 12, phase: 533_000_000, rate: -45_780_000 },
+    PeriodicTerm { size: 10, phase: 1_266_000_000, rate: 268_952_920_000 },
+    PeriodicTerm { size: 10, phase: 2_057_000_000, rate: -391_270_000 },
+    PeriodicTerm { size: 10, phase: 859_000_000, rate: 122_975_360_000 },
+    PeriodicTerm { size: 10, phase: 1_461_000_000, rate: 900_737_780_000 },
 ];

@@ -18,17 +18,17 @@ pub record HasCause {T E : Type 0} (before now : ℕ) (result : Result T E) : Ty
 
 -- of these bytes all but the rest have been appended
 pub record Wrote (old new : Option (List ℕ)) (bytes rest : List ℕ) : Type 0 where
-  pub front : List ℕ
-  pub appended : Appends old new front
-  pub whole : bytes ≡ front ++ rest
+  pub prefix : List ℕ
+  pub appended : Appends old new prefix
+  pub whole : bytes ≡ prefix ++ rest
 
 -- a prefix of these bytes was appended
-pub record AppendsFront (old new : Option (List ℕ)) (bytes : List ℕ) : Type 0 where
+pub record AppendsPrefix (old new : Option (List ℕ)) (bytes : List ℕ) : Type 0 where
   pub rest : List ℕ
   pub wrote : Wrote old new bytes rest
 
 -- a call that is to write these bytes has appended them all, or failed, which has its cause, and appended a prefix of them
 pub record Writes {S T E : Type 0} (written : S → Option (List ℕ)) (faults : S → ℕ) (old new : S) (bytes : List ℕ) (result : Result T E) : Type 0 where
   pub ok : OnOk result (Appends (written old) (written new) bytes)
-  pub err : OnErr result (AppendsFront (written old) (written new) bytes)
+  pub err : OnErr result (AppendsPrefix (written old) (written new) bytes)
   pub cause : HasCause (faults old) (faults new) result

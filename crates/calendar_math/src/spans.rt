@@ -6,12 +6,12 @@
 ghost use Rattle.std.specs.Prelude.{◌≡◌, ◌<◌, ◌≤◌, ◌^◌, pos, negsuc, ◌≤ℤ◌, ◌*ℤ◌};
 ghost use Rattle.book_model.specs.numbers.Fractions.{fraction_of};
 ghost use Rattle.book_model.specs.calendars.Spans.{quotient_down, ratio, days_of as days_of_spans, spans_of as spans_of_days, days_of_years as days_of_tropical_years, months_of_days as synodic_months_of, years_of_days as tropical_years_of};
-ghost use Rattle.rounded_quotients.specs.Counts.{IsCount};
+ghost use Rattle.int_division.specs.Counts.{IsCount};
 ghost use Rattle.calendar_math.specs.Days.{IsSpan, IsSpanCount};
 
 use book_model::Frac;
 use book_model::calendar_tables::{SYNODIC_MONTH, TROPICAL_YEAR};
-use rounded_quotients::wide_quotient;
+use int_division::wide_quotient;
 
 /// The greatest whole number that isn't above a quotient from -100,000,000,000 to 100,000,000,000.
 fn quotient_within(number: i128, divisor: u64) -> i64

@@ -40,5 +40,5 @@ HandsCheck input old new told BadText = Hands (IsRefusal input) old new told
 HandsCheck input old new told NoRoom = HandsNone (IsCheck input) old new told
 
 -- a call ends with the number of a status, and as that says
-abbrev pub Ends : (Handed → Type 0) → ℤ → Type 0
-Ends Handing number = (handed : Handed) × (number ≡ number_of handed) × Handing handed
+abbrev pub Endpoints : (Handed → Type 0) → ℤ → Type 0
+Endpoints Handing number = (handed : Handed) × (number ≡ number_of handed) × Handing handed

@@ -70,7 +70,7 @@ pub extern "C" fn calendrica_answer(
 ) -> i32
     requires open { evaluator.old.is_open ≡ true }
     ensures open { evaluator.new.is_open ≡ true }
-    ensures answered { spec.Ends (spec.HandsAnswer (answer_text line.now) line.now room.old room.new
+    ensures answered { spec.Endpoints (spec.HandsAnswer (answer_text line.now) line.now room.old room.new
         length.new) result }
 {
     let mut kept = taken(alloc, evaluator);
@@ -90,7 +90,7 @@ pub extern "C" fn calendrica_result(
 ) -> i32
     requires open { evaluator.old.is_open ≡ true }
     ensures open { evaluator.new.is_open ≡ true }
-    ensures answered { spec.Ends (spec.HandsAnswer brief_text line.now room.old room.new length.new)
+    ensures answered { spec.Endpoints (spec.HandsAnswer brief_text line.now room.old room.new length.new)
         result }
 {
     let mut kept = taken(alloc, evaluator);
@@ -110,7 +110,7 @@ pub extern "C" fn calendrica_check(
 ) -> i32
     requires open { evaluator.old.is_open ≡ true }
     ensures open { evaluator.new.is_open ≡ true }
-    ensures checked { spec.Ends (spec.HandsCheck text.now room.old room.new length.new) result }
+    ensures checked { spec.Endpoints (spec.HandsCheck text.now room.old room.new length.new) result }
 {
     let mut kept = taken(alloc, evaluator);
     let handed = kept.check(alloc, text, room, length);

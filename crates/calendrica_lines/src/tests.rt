@@ -56,9 +56,9 @@ fn answering_ends_as_its_streams_say(rt: HostRuntime) -> Result<(), Fail> {
         let mut sink = MemorySink::new(alloc, *room, vec![in alloc]?)?;
         let got = answer_lines(alloc, &mut answerer, &mut source, &mut sink);
         let wanted = joined(alloc, texts)?;
-        let front = &wanted[..wanted.len().min(*room)];
+        let prefix = &wanted[..wanted.len().min(*room)];
         assert!(rt;
-            (got, sink.written()) == (*status, front),
+            (got, sink.written()) == (*status, prefix),
             "{input:?}: {room}"
         );
     }

@@ -24,7 +24,7 @@ use Rattle.oracle_core.proofs.FactLemmas.{one_fact}
 use Rattle.oracle_core.proofs.Listing.{not_and, neither, other_way}
 use Rattle.cert_text.specs.declared.line.CertLine.{CertLine}
 use Rattle.cert_text.specs.declared.line.CertLine.TheVariants as line
-use Rattle.cert_read.specs.Reading.{are_of_facts, listed}
+use Rattle.cert_parser.specs.Reading.{are_of_facts, listed}
 use Rattle.cert_text.specs.Text.{too_far_text, no_date_text}
 use Rattle.cert_check.specs.declared.verdict.Verdict.{Verdict}
 use Rattle.cert_check.specs.declared.verdict.Verdict.TheVariants.{Yes, No}

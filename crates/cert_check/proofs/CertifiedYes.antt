@@ -17,7 +17,7 @@ use Rattle.book_model.specs.calendars.Inquiries.{Inquiry, done, ask, fact_eq, wi
 use Rattle.book_model.specs.lines.LineRules.{rule_of}
 use Rattle.book_model.specs.lines.Outcomes.{resolved, IsRightForRow}
 use Rattle.book_model.specs.lines.Requests.{request_of}
-use Rattle.book_model.specs.programs.Programs.{Outcome, valued, void_at, open_at, outcome}
+use Rattle.book_model.specs.programs.Programs.{Outcome, valued, void_at, undecided_test_at, outcome}
 use Rattle.book_model.specs.lines.Text.{result_text}
 use Rattle.oracle_core.specs.declared.evaluator.Answer.{Answer}
 use Rattle.oracle_core.specs.declared.evaluator.Answer.TheVariants as answer
@@ -27,8 +27,8 @@ use Rattle.oracle_core.proofs.FactLemmas.{one_fact}
 use Rattle.oracle_core.proofs.Keeping.{facts_of_push}
 use Rattle.cert_text.specs.declared.line.CertLine.{CertLine}
 use Rattle.cert_text.specs.declared.line.CertLine.TheVariants as line
-use Rattle.cert_read.specs.Grammar.{or_else}
-use Rattle.cert_read.specs.Reading.{listed}
+use Rattle.cert_parser.specs.Grammar.{or_else}
+use Rattle.cert_parser.specs.Reading.{listed}
 use Rattle.cert_text.specs.Text.{too_far_text, no_date_text}
 use Rattle.cert_check.specs.declared.verdict.Reason.{Reason}
 use Rattle.cert_check.specs.declared.verdict.Verdict.TheVariants.{Yes}
@@ -104,7 +104,7 @@ module _ {A : Type 0} (n : ℕ) where
           → found_at f o (λ v. finding_after n (with_entry seen f v) (next v)) ≡ found x es → list_any (fact_eq g) (facts_of es) ≡ true
       step (valued v) rest l = rest v l (rw (facts_with seen f v) (among_with g f (facts_of seen) k))
       step (void_at s) rest l = cc
-      step (open_at s) rest l = cc
+      step (undecided_test_at s) rest l = cc
 
   -- what is found at a depth, over facts that stand, is the inquiry's result over their values
   found_traced : (i : Inquiry A) (seen es : List (Fact × ℤ)) (x : A) → 40 ≤ n → AllStand es → finding_after n seen i ≡ found x es
@@ -127,7 +127,7 @@ module _ {A : Type 0} (n : ℕ) where
           ≡ traced x (facts_of es) = rw (facts_with seen f v) at (rest v l) in
           rw value traced_on
       step (void_at s) e rest l = cc
-      step (open_at s) e rest l = cc
+      step (undecided_test_at s) e rest l = cc
 
 equal_values : (v w : ℤ) → v ≡ w → int_eq v w ≡ true
 equal_values v w e = grind (arith, ints, e)

@@ -12,7 +12,7 @@ use Rattle.oracle_core.specs.declared.evaluator.Answer.TheVariants as answer
 use Rattle.oracle_core.specs.Answers.{IsRightAnswer}
 use Rattle.oracle_core.specs.Pairs.{StandsWith, AllStand, facts_of, are_distinct, AreFactValues}
 use Rattle.oracle_core.proofs.Listing.{other_way, not_and, passed_over}
-use Rattle.cert_read.specs.Grammar.{or_else}
+use Rattle.cert_parser.specs.Grammar.{or_else}
 use Rattle.cert_check.specs.declared.verdict.Reason.{Reason}
 use Rattle.cert_check.specs.Listed.{AreNumbers}
 use Rattle.cert_check.specs.Verdicts.{AreRightAnswers, values_of, onto, numbered, reason_of, unanswered, first_unanswered}

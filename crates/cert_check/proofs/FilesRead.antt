@@ -2,9 +2,9 @@
 use Rattle.std.proofs.Common.{◌≡◌, ℕ, List, [], ◌∷◌, length, ℤ}
 use Rattle.book_model.specs.declared.fact.Fact.{Fact}
 use Rattle.oracle_core.specs.Pairs.{AreFactValues}
-use Rattle.cert_read.specs.declared.lines.CertFile.{CertFile}
-use Rattle.cert_read.specs.Reading.{file, grammar_of}
-use Rattle.cert_read.proofs.ReadFiles.{HaveKnownValues, grammar_well, numbers_at, rule_at}
+use Rattle.cert_parser.specs.declared.lines.CertFile.{CertFile}
+use Rattle.cert_parser.specs.Reading.{file, grammar_of}
+use Rattle.cert_parser.proofs.ReadFiles.{HaveKnownValues, grammar_well, numbers_at, rule_at}
 use Rattle.cert_check.specs.Verdicts.{values_of, IsCheckable}
 
 values_known : (es : List (Fact × ℤ)) → HaveKnownValues es → AreFactValues (values_of es)

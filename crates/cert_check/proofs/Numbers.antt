@@ -3,8 +3,8 @@ use Rattle.std.proofs.Common.{◌≡◌, ℕ, zero, suc, ◌-◌, ◌^◌, ◌<�
 use Rattle.std.specs.Prelude.{nat_eq, nat_le, if◌then◌else◌}
 use Rattle.std.specs.List.{list_any}
 use Rattle.std.proofs.lemmas.Bool.Decides.{nat_tests}
-use Rattle.cert_read.specs.Reading.{are_of_facts}
-use Rattle.cert_read.proofs.ReadFiles.{four_hold}
+use Rattle.cert_parser.specs.Reading.{are_of_facts}
+use Rattle.cert_parser.proofs.ReadFiles.{four_hold}
 use Rattle.cert_check.specs.Listed.{AreNumbers}
 
 -- none of the numbers is this one

@@ -7,7 +7,7 @@ use Rattle.book_model.specs.declared.request.Resolved.{Resolved}
 use Rattle.book_model.specs.calendars.Inquiries.{Inquiry, fact_eq, with_fact}
 use Rattle.oracle_core.specs.declared.oracle.Stop.{Stop}
 use Rattle.oracle_core.specs.declared.oracle.Stop.TheVariants.{Missing as missing_stop}
-use Rattle.oracle_core.specs.Inquiring.{State, Tells, ends, goes_on, stops, Inquires}
+use Rattle.oracle_core.specs.Inquiring.{State, Tells, endpoints, goes_on, stops, Inquires}
 use Rattle.oracle_core.specs.Oracles.{by_table}
 use Rattle.oracle_core.specs.Pairs.{FactTable, are_distinct, value_beside}
 use Rattle.oracle_core.specs.Stops.{IsStopAt, MayStopListed}
@@ -35,14 +35,14 @@ table_of facts values f = value_in (value_beside facts values f)
 -- a result over the listed facts is the inquiry's over them, with the facts asked
 traces : {A : Type 0} {t : FactTable} {i : Inquiry A} {old new : List Fact} {r : Result A Stop} (a : A) → Tells by_table t i old new r → r ≡ Ok a
     → trace_after t.facts t.values old i ≡ traced a new
-traces a (ends {a = b} {asked = seen}) e = let same : b ≡ a = cc in ap (λ x. traced x seen) same
+traces a (endpoints {a = b} {asked = seen}) e = let same : b ≡ a = cc in ap (λ x. traced x seen) same
 traces a (goes_on value rest) e = rw value (traces a rest e)
 traces a (stops fresh stop) e = cc
 
 -- where an oracle over listed facts misses a fact, it is the first that isn't listed
 misses : {A : Type 0} {t : FactTable} {i : Inquiry A} {old new : List Fact} {r : Result A Stop} (f : Fact) → Tells by_table t i old new r → r
     ≡ Err (missing_stop f) → trace_after t.facts t.values old i ≡ missing f
-misses f ends e = cc
+misses f endpoints e = cc
 misses f (goes_on value rest) e = rw value (misses f rest e)
 misses {t = t} f (stops {f = g} {s = s} fresh stop) e =
     let is : s ≡ missing_stop f = cc in
@@ -96,14 +96,14 @@ record AreFound (t : FactTable) (asked : List Fact) : Type 0 where
 
 found_after : {A : Type 0} {t : FactTable} {i : Inquiry A} {old new : List Fact} {r : Result A Stop} → Tells by_table t i old new r → AreFound t old
     → AreFound t new
-found_after ends h = h
+found_after endpoints h = h
 found_after {t = t} {old = old} (goes_on {f = f} {v = v} value rest) h = found_after rest
     (record { distinct = distinct_with old f h.distinct; valued = valued_with t old f v h.valued value })
 found_after (stops fresh stop) h = h
 
 -- no fact is asked behind all of the listed ones
-ends_within : (t : FactTable) (asked : List Fact) → AreFound t asked → EndsWithin asked t.facts
-ends_within t asked h = record {
+endpoints_within : (t : FactTable) (asked : List Fact) → AreFound t asked → EndsWithin asked t.facts
+endpoints_within t asked h = record {
   no_more = λ f fs e.
       let d : IsTrue (are_distinct (t.facts ++ f ∷ fs)) = rw e at h.distinct in
       let v = valued_at t t.facts f fs (rw e at h.valued) in
@@ -121,7 +121,7 @@ pub record IsFresh (facts : List Fact) (values : List ℤ) (s : State FactTable)
 pub asked_within : {A : Type 0} (facts : List Fact) (values : List ℤ) (i : Inquiry A) (old new : State FactTable) (r : Result A Stop) → IsFresh facts values old
     → Inquires by_table i old new r → EndsWithin new.asked facts
 asked_within facts values i old new r fresh h =
-    rw (← fresh.facts_are) (ends_within old.known new.asked (found_after h.tells (rw fresh.none (record { distinct = refl; valued = tt }))))
+    rw (← fresh.facts_are) (endpoints_within old.known new.asked (found_after h.tells (rw fresh.none (record { distinct = refl; valued = tt }))))
 
 -- the verdict by what was asked is that of the listed facts
 pub traced_verdict : {E : Type 0} (facts : List Fact) (values : List ℤ) (i : Inquiry Resolved) (old new : State FactTable) (x : Resolved) (text : List ℕ)

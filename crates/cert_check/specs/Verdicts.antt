@@ -4,7 +4,7 @@ use Rattle.std.specs.Ordering.{int_eq}
 use Rattle.std.specs.List.{slice_get}
 use lib.Pointwise.{pointwise}
 use Rattle.book_model.specs.declared.fact.Fact.{Fact}
-use Rattle.book_model.specs.declared.fail.Undecided.{Undecided as OpenTest}
+use Rattle.book_model.specs.declared.fail.Undecided.{Undecided as UndecidedTest}
 use Rattle.book_model.specs.declared.request.Request.{Request}
 use Rattle.book_model.specs.declared.request.Resolved.{Resolved}
 use Rattle.book_model.specs.declared.request.Rule.{Rule}
@@ -22,9 +22,9 @@ use Rattle.oracle_core.specs.Pairs.{AllStand, AreFactValues, are_distinct, facts
 use Rattle.cert_text.specs.Echo.{Echo}
 use Rattle.cert_text.specs.declared.line.CertLine.{CertLine}
 use Rattle.cert_text.specs.declared.line.CertLine.TheVariants as line
-use Rattle.cert_read.specs.declared.lines.CertFile.{CertFile}
-use Rattle.cert_read.specs.Grammar.{or_else}
-use Rattle.cert_read.specs.Reading.{are_of_facts, listed, HasRule}
+use Rattle.cert_parser.specs.declared.lines.CertFile.{CertFile}
+use Rattle.cert_parser.specs.Grammar.{or_else}
+use Rattle.cert_parser.specs.Reading.{are_of_facts, listed, HasRule}
 use Rattle.cert_text.specs.Text.{too_far_text, no_date_text}
 use Rattle.cert_check.specs.declared.verdict.Verdict.{Verdict}
 use Rattle.cert_check.specs.declared.verdict.Verdict.TheVariants.{Yes, No, Skip}
@@ -158,7 +158,7 @@ IsCertifiedLine version facts (line.Void fact site) = ⊥
 -- none of the facts is near at a test
 abbrev pub AreNearNowhere : List (Fact × ℤ) → Type 0
 AreNearNowhere [] = Unit {0}
-AreNearNowhere (e ∷ es) = ((u : OpenTest) → IsNear e.0 u → ⊥) × AreNearNowhere es
+AreNearNowhere (e ∷ es) = ((u : UndecidedTest) → IsNear e.0 u → ⊥) × AreNearNowhere es
 
 -- The facts of a file are distinct, each value is one of a fact, the numbers that a line lists are distinct and numbers of the
 -- facts, and a line that is refused without its words names a rule.

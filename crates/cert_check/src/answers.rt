@@ -3,7 +3,7 @@ ghost use Rattle.std.specs.Prelude.{IfOk};
 ghost use Rattle.cert_check.specs.Verdicts.{AreRightAnswers};
 
 use book_model::Fact;
-use cert_read::CertFile;
+use cert_parser::CertFile;
 use oracle_core::{Answers, Evaluator};
 use std::alloc::{AllocError, Global};
 

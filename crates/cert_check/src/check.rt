@@ -5,7 +5,7 @@ ghost use Rattle.book_model.specs.lines.LineRules.{rule_of};
 ghost use Rattle.book_model.specs.lines.Requests.{is_possible, is_in_reach};
 ghost use Rattle.oracle_core.specs.Pairs.{are_distinct, facts_of, AreFactValues};
 ghost use Rattle.oracle_core.specs.declared.oracle.Stop.TheVariants.{Missing as missing_stop};
-ghost use Rattle.cert_read.specs.Reading.{are_of_facts, listed as numbers_of};
+ghost use Rattle.cert_parser.specs.Reading.{are_of_facts, listed as numbers_of};
 ghost use Rattle.cert_check.specs.Listed.{NamesMissing};
 ghost use Rattle.cert_check.specs.Verdicts as spec;
 
@@ -13,7 +13,7 @@ use crate::compare::verdict_by_list;
 use crate::listed::{first_reason, listed_facts, listed_values};
 use crate::verdict::{Reason, Verdict};
 use book_model::{Fact, Request, Version};
-use cert_read::CertFile;
+use cert_parser::CertFile;
 use cert_text::{CertLine, Echo, no_date_word, too_far_word};
 use line_core::{ThreeWords, read_words, resolve};
 use oracle_core::{Answers, Listed, Stop};

@@ -4,8 +4,8 @@ ghost use Rattle.book_model.specs.declared.fact.Fact.{Fact};
 ghost use Rattle.book_model.specs.declared.version.Version.{Version};
 ghost use Rattle.oracle_core.specs.declared.evaluator.Answer.{Answer};
 ghost use Rattle.cert_text.specs.declared.line.CertLine.{CertLine};
-ghost use Rattle.cert_read.specs.declared.lines.CertFile.{CertFile};
-ghost use Rattle.cert_read.specs.Reading.{file as is_file, grammar_of, listed};
+ghost use Rattle.cert_parser.specs.declared.lines.CertFile.{CertFile};
+ghost use Rattle.cert_parser.specs.Reading.{file as is_file, grammar_of, listed};
 ghost use Rattle.cert_check.specs.Verdicts.{AreRightAnswers, IsCertifiedLine, AreNearNowhere, IsCheckable, numbered, verdict_of};
 ghost use Rattle.cert_check.specs.declared.verdict.Verdict.TheVariants.{Yes};
 

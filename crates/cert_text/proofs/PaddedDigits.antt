@@ -38,13 +38,13 @@ one_digit n h = λ k below.
     }
 
 digit_more : (n : ℕ) (ds : List ℕ) → 10 ≤ n → ArePadded (n / 10) ds → ArePadded n (ds ++ (48 + n % 10) ∷ [])
-digit_more n ds h front = λ k below. step k below
+digit_more n ds h prefix = λ k below. step k below
   where
     step : (k : ℕ) → n < 10 ^ suc k → IsPadded k n (ds ++ (48 + n % 10) ∷ [])
     step zero below = absurd (omega arith)
     step (suc k) below =
         let less : n / 10 < 10 ^ suc k = omega (arith, pow-suc 10 (suc k)) in
-        let rest = front k less in
+        let rest = prefix k less in
         let longer : length (ds ++ (48 + n % 10) ∷ []) ≡ suc (length ds) = omega (arith, length-append ds ((48 + n % 10) ∷ [])) in
         let width : suc (suc k) - suc (length ds) ≡ suc k - length ds = omega arith in
         record {

@@ -293,7 +293,7 @@ pub fn write_line<K: Sink>(sink: &mut K, number: u32, line: &CertLine) -> Result
 }
 
 // It asks only that its facts' numbers fit 32 bits, and writes the text of any block; that the text
-// is read again is a law with premises of its own (`cert_read::laws::read_again`).
+// is read again is a law with premises of its own (`cert_parser::laws::read_again`).
 /// Writes the text of a block: its facts, numbered from its first, and then its line with its number. At an error,
 /// which comes only where the count of the sink's faults rose, a prefix of the text was written.
 pub fn write_block<K: Sink>(sink: &mut K, block: &Block) -> Result<(), Failed>

@@ -8,7 +8,7 @@ use Rattle.std.proofs.lemmas.Bool.Decides.{nat_tests}
 use Rattle.book_model.specs.declared.fact.Fact.{Fact}
 use Rattle.book_model.specs.calendars.Inquiries.{Inquiry, done, ask, ask_once, fact_eq, with_fact}
 use Rattle.oracle_core.specs.declared.oracle.Stop.{Stop}
-use Rattle.oracle_core.specs.Inquiring.{Meaning, State, Tells, ends, goes_on, stops, Inquires}
+use Rattle.oracle_core.specs.Inquiring.{Meaning, State, Tells, endpoints, goes_on, stops, Inquires}
 use Rattle.book_model.specs.sky.Facts.{IsFactValue}
 use Rattle.chinese_cal.specs.Keeping.{IsKept, AllKept, AreEmpty, kept_value}
 use Rattle.oracle_core.proofs.FactLemmas.{one_fact}
@@ -55,7 +55,7 @@ stays f g seen h = by (list_any (fact_eq g) seen)
 -- whatever is asked, a fact that was asked stays so
 tells_stays : {Known A : Type 0} {m : Meaning Known} {k : Known} {i : Inquiry A} {old new : List Fact} {r : Result A Stop} (f : Fact) → Tells m k i old new r
     → list_any (fact_eq f) old ≡ true → list_any (fact_eq f) new ≡ true
-tells_stays f ends h = h
+tells_stays f endpoints h = h
 tells_stays {m = m} {k = k} {old = old} f (goes_on {f = g} value t) h = tells_stays f t (stays f (m.kept_as k g) old h)
 tells_stays f (stops fresh stop) h = h
 
@@ -94,12 +94,12 @@ pub asked_kept : {Known : Type 0} {m : Meaning Known} {s : State Known} (f : Fac
 unfolding ask_once
 asked_kept {m = m} {s = s} f v k =
     let there : with_fact s.asked (m.kept_as s.known f) ≡ s.asked = rw k.asked refl in
-    record { same = refl; tells = goes_on k.known (rw there ends) }
+    record { same = refl; tells = goes_on k.known (rw there endpoints) }
 
 -- an inquiry that is done asks nothing
 told_done : {Known : Type 0} {m : Meaning Known} {k : Known} {i : Inquiry ℤ} {old new : List Fact} {r : Result ℤ Stop} (a : ℤ) → Tells m k i old new r → i
     ≡ done a → (new ≡ old) × (r ≡ Ok a)
-told_done a ends e = (refl, cc)
+told_done a endpoints e = (refl, cc)
 told_done a (goes_on value t) e = absurd (cc)
 told_done a (stops fresh stop) e = absurd (cc)
 
@@ -117,7 +117,7 @@ answered : {Known : Type 0} {m : Meaning Known} {k : Known} {i : Inquiry ℤ} {o
     → i ≡ ask f done → r ≡ Ok v
     → m.value_of k (m.kept_as k f) v × (list_any (fact_eq (m.kept_as k f)) new ≡ true)
 unfolding first_of next_of
-answered f v ends is res = absurd (cc)
+answered f v endpoints is res = absurd (cc)
 answered {m = m} {k = k} {old = old} {new = new} f v (goes_on {f = g} {v = w} {next = next} value t) is res =
     let gf : g ≡ f = ap (first_of f) is in
     let d = told_done w t (ap (next_of w) is) in

@@ -4,8 +4,8 @@ ghost use Rattle.book_model.specs.calendars.Gregorian.{first_day, fixed_of, leap
 ghost use Rattle.jiff.specs.Words.{epoch_day};
 
 use crate::jiff_date::{date_on, day_number};
+use int_division::{floor_div, quotient};
 use jiff::civil::{Date, date};
-use rounded_quotients::{floor_div, quotient};
 
 /// The days of 400 years, after which the calendar repeats itself.
 const DAYS_OF_400_YEARS: i128 = 146_097;

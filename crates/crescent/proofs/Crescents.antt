@@ -2,8 +2,8 @@
 use Rattle.std.specs.Prelude.{ℕ, ◌+◌, ◌*◌, Bool, ℤ, pos, ◌-ℤ◌, int_le}
 use Rattle.std.proofs.Common.{arith}
 use Rattle.book_model.specs.declared.horizon.Location.{Location}
-use Rattle.book_model.specs.sky.Crescent.{evening_of, and_also, is_past_new_of, is_before_quarter_of, is_lit_of, is_within_quarter_of, is_high_of, is_bright_of, is_crescent_of, meets_of, meets_with_of, obliquity_at_of, meets_at_of, visible_of, sight_start_of, sight_after_of, phasis_of}
-use Rattle.book_model.specs.sky.Nisan.{sought_start_of, sight_by_of, sight_from_of}
+use Rattle.book_model.specs.sky.Crescent.{evening_of, and_also, is_past_new_of, is_before_quarter_of, is_lit_of, is_within_quarter_of, is_high_of, is_bright_of, is_crescent_of, meets_of, meets_with_of, obliquity_at_of, meets_at_of, visible_of, visibility_start_of, visibility_after_of, phasis_of}
+use Rattle.book_model.specs.sky.Nisan.{sought_start_of, visibility_by_of, visibility_from_of}
 use Rattle.book_model.specs.numbers.Expressions.{Expression}
 use Rattle.book_model.specs.sky.Horizon.{dusk_of, depression_of}
 use Rattle.book_model.specs.sky.Latitude.{latitude_of}
@@ -63,12 +63,12 @@ pub visible_few : (p : Location) (d : ℤ) → AtMost 151 (visible_of p d)
 unfolding visible_of
 visible_few p d = at_most_bind 132 19 (evening_few p d) (meets_at_few p)
 
-start_few : (p : Location) (d m : ℤ) → AtMost 151 (sight_start_of p d m)
-unfolding sight_start_of
+start_few : (p : Location) (d m : ℤ) → AtMost 151 (visibility_start_of p d m)
+unfolding visibility_start_of
 start_few p d m = few_if 151 (int_le (d -ℤ m) (pos 3)) _ _ (at_most_bind 151 0 (visible_few p d) (λ seen. answer_at_most)) answer_at_most
 
 pub phasis_few : (p : Location) (d : ℤ) → AtMost 99999 (phasis_of p d)
-unfolding phasis_of sight_after_of first_day_from
+unfolding phasis_of visibility_after_of first_day_from
 phasis_few p d =
     at_most_more (845 + (151 + 46 * 151)) 99999 (omega arith)
     (at_most_bind 845 (151 + 46 * 151) (phase_day_few_exactly (pos 0) d)
@@ -79,8 +79,8 @@ unfolding sought_start_of
 sought_few p s m = few_if 151 (int_le (pos 4) (s -ℤ m)) _ _ answer_at_most (at_most_bind 151 0 (visible_few p (s -ℤ pos 1)) (λ seen. answer_at_most))
 
 -- the first visibility from a day on makes 7,942 tests at most
-pub sight_from_few : (p : Location) (s : ℤ) → AtMost (845 + (151 + 46 * 151)) (sight_from_of p s)
-unfolding sight_from_of sight_by_of first_day_from
-sight_from_few p s =
+pub visibility_from_few : (p : Location) (s : ℤ) → AtMost (845 + (151 + 46 * 151)) (visibility_from_of p s)
+unfolding visibility_from_of visibility_by_of first_day_from
+visibility_from_few p s =
     at_most_bind 845 (151 + 46 * 151) (phase_day_few_exactly (pos 0) s)
     (λ m. at_most_bind 151 (46 * 151) (sought_few p s m) (λ q. days_few 151 46 (visible_of p) q (visible_few p)))

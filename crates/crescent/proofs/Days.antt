@@ -12,7 +12,7 @@ use Rattle.book_model.proofs.FactRuns.{parts}
 use Rattle.book_model.proofs.Leads.{leads_value}
 use Rattle.moon_core.proofs.PhaseRanges.{phase_in_table}
 use Rattle.book_model.specs.declared.time_tables.TheConstants.{TABLE_START, TABLE_END}
-use Rattle.crescent.specs.Sights.{IsTableDay}
+use Rattle.crescent.specs.Visibilities.{IsTableDay}
 
 whole_order : (n d : ℤ) → whole n ≤F whole d → n ≤ℤ d
 whole_order n d h = let c = h.cross in omega (arith, ints, c)

@@ -61,10 +61,10 @@ parts false q r s e = absurd (cc)
 le_true : (a b : ℤ) → le_z a b ≡ true → a ≤ℤ b
 le_true a b e = le_z_yes (T_from_true _ e)
 
-both_ends : (p q : Bool) → p ≡ true → q ≡ true → (p && q && true && true) ≡ true
-both_ends true true h k = refl
-both_ends true false h k = absurd (cc)
-both_ends false q h k = absurd (cc)
+both_endpoints : (p q : Bool) → p ≡ true → q ≡ true → (p && q && true && true) ≡ true
+both_endpoints true true h k = refl
+both_endpoints true false h k = absurd (cc)
+both_endpoints false q h k = absurd (cc)
 
 le_yes : (a b : ℤ) → a ≤ℤ b → le_z a b ≡ true
 le_yes a b h = let e : true ≡ le_z a b = omega (arith, ints) in cc
@@ -105,19 +105,19 @@ unfolding implies
 by_scaled false lo hi s k h = absurd (cc)
 by_scaled true lo hi s k h =
     let p = parts _ _ _ _ h in
-    both_ends _ _ (le_yes _ _ (least_low lo hi (le_true _ _ p.0))) (le_yes _ _ (greatest_high lo hi (le_true _ _ p.1)))
+    both_endpoints _ _ (le_yes _ _ (least_low lo hi (le_true _ _ p.0))) (le_yes _ _ (greatest_high lo hi (le_true _ _ p.1)))
 
-by_ends : (t : Bool) (lo hi : ℤ) → implies (scaled_bound (limits_at 56) (fraction_of DEGREE_IN_DAYS) (limited t (bounded lo hi 0 (2 ^ 8))))
+by_endpoints : (t : Bool) (lo hi : ℤ) → implies (scaled_bound (limits_at 56) (fraction_of DEGREE_IN_DAYS) (limited t (bounded lo hi 0 (2 ^ 8))))
     (bounded (neg_ℤ (pos (2 ^ 32))) (pos (2 ^ 32)) 0 (2 ^ 10)) ≡ true
     → implies (limited t (bounded lo hi 0 (2 ^ 8))) (bounded (neg_ℤ (pos (360 * 2 ^ 32))) (pos (360 * 2 ^ 32)) 0 (2 ^ 8)) ≡ true
 unfolding implies scaled_bound
-by_ends false lo hi h = absurd (cc)
-by_ends true lo hi h = by_scaled _ lo hi _ _ h
+by_endpoints false lo hi h = absurd (cc)
+by_endpoints true lo hi h = by_scaled _ lo hi _ _ h
 
 place_reach : (l : Frac) → IsNarrowPlace l → implies (bound_of (limits_at 56) (λ k. unbounded) (constant (fraction_of l)))
     (bounded (neg_ℤ (pos (360 * 2 ^ 32))) (pos (360 * 2 ^ 32)) 0 (2 ^ 8)) ≡ true
 unfolding bound_of constant_bound ahead_of
-place_reach l p = by_ends _ _ _ p.narrow
+place_reach l p = by_endpoints _ _ _ p.narrow
 
 abbrev local_bounds : ℕ → Bound
 local_bounds k = if k == 0 then bounded (neg_ℤ (pos (2 ^ 61))) (pos (2 ^ 61)) 0 (2 ^ 41) else bounded (neg_ℤ (pos (360 * 2 ^ 32))) (pos (360 * 2 ^ 32)) 0

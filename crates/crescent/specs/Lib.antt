@@ -1,4 +1,4 @@
 -- of rise_set, re-exported
 pub use Rattle.rise_set.specs.Widths as SkyWidths
-pub mod Sights
+pub mod Visibilities
 pub mod Widths

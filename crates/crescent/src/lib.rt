@@ -3,7 +3,7 @@
 //!
 //! - `arc_cosine`: the moon's arc of light;
 //! - `visible`: the criterion, by the moon's phase, its arc of light and its altitude at dusk;
-//! - `phasis`: the search for the day of the first visibility; `phasis_by`: the same by linear models; `sight_from_by`: the search
+//! - `phasis`: the search for the day of the first visibility; `phasis_by`: the same by linear models; `visibility_from_by`: the search
 //!   from a day on;
 //! - `Sunsets`, `sunset`: of `rise_set`, re-exported to the facts.
 #![tactic(auto)]
@@ -11,9 +11,9 @@
 mod arc_of_light;
 mod criterion;
 mod evening;
-mod first_sight;
+mod first_visibility;
 
 pub use arc_of_light::arc_cosine;
 pub use criterion::visible;
-pub use first_sight::{phasis, phasis_by, sight_from_by};
+pub use first_visibility::{phasis, phasis_by, visibility_from_by};
 pub use rise_set::{Sunsets, sunset};

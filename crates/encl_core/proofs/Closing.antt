@@ -9,7 +9,7 @@ use Rattle.book_model.proofs.Floors.{floor_mono}
 use Rattle.book_model.proofs.Fractions.{le_refl, le_trans, plus_mono, smaller_keeps, larger_keeps, at_most_true, at_most_false}
 use Rattle.book_model.proofs.Same.{le_of_same, ge_of_same, plus_assoc, plus_zero}
 use Rattle.book_model.specs.numbers.Bounds.{IsNarrow, breadth, at_32}
-use Rattle.book_model.specs.programs.Leading.{units_of_56, AreEnds, bounds, no_bounds, IsOpenCell, between_cells, too_far, IsOpenComparison}
+use Rattle.book_model.specs.programs.Leading.{units_of_56, AreEndpoints, bounds, no_bounds, IsUndecidedCell, between_cells, too_far, IsUndecidedComparison}
 use Rattle.book_model.specs.programs.Programs.{integers, cell_at, cell_of, compare_at, when}
 use Rattle.book_model.specs.declared.site.Site.{Site}
 use Rattle.book_model.specs.declared.fail.Undecided.{Undecided}
@@ -21,20 +21,20 @@ unfolding plus
 apart v lo hi h = omega (arith, ints, h.cross)
 
 -- the endpoints of an interval that lie within a width of each other
-ends_of_close : (v : ℕ) (a b : Fraction) (lo hi : ℤ) → units_of_56 lo ≈ a → units_of_56 hi ≈ b → b ≤F plus a (breadth 0 0 v) → ((hi -ℤ lo) *ℤ pos 256) ≤ℤ pos v
-ends_of_close v a b lo hi l r h = apart v lo hi (le_trans _ _ _ (le_of_same r) (le_trans _ _ _ h (plus_mono _ _ _ _ (ge_of_same l) (le_refl _))))
+endpoints_of_close : (v : ℕ) (a b : Fraction) (lo hi : ℤ) → units_of_56 lo ≈ a → units_of_56 hi ≈ b → b ≤F plus a (breadth 0 0 v) → ((hi -ℤ lo) *ℤ pos 256) ≤ℤ pos v
+endpoints_of_close v a b lo hi l r h = apart v lo hi (le_trans _ _ _ (le_of_same r) (le_trans _ _ _ h (plus_mono _ _ _ _ (ge_of_same l) (le_refl _))))
 
-pub ends_apart : (low high : ℤ) (v : ℕ) (lo hi : ℤ) (i : Interval) → IsWithin low high v i → AreEnds lo hi i → ((hi -ℤ lo) *ℤ pos 256) ≤ℤ pos v
+pub endpoints_apart : (low high : ℤ) (v : ℕ) (lo hi : ℤ) (i : Interval) → IsWithin low high v i → AreEndpoints lo hi i → ((hi -ℤ lo) *ℤ pos 256) ≤ℤ pos v
 unfolding IsNarrow
-ends_apart low high v lo hi everything h (no_bounds e) = absurd h.kept
-ends_apart low high v lo hi (between a b) h (bounds l r) = ends_of_close v a b lo hi l r h.kept.close
+endpoints_apart low high v lo hi everything h (no_bounds e) = absurd h.kept
+endpoints_apart low high v lo hi (between a b) h (bounds l r) = endpoints_of_close v a b lo hi l r h.kept.close
 
 -- two numbers within an interval
 pub inner_apart : (low high : ℤ) (v : ℕ) (lo hi : ℤ) (i : Interval) → IsWithin low high v i → between (units_of_56 lo) (units_of_56 hi) ⊆ i
     → ((hi -ℤ lo) *ℤ pos 256) ≤ℤ pos v
 unfolding IsNarrow
 inner_apart low high v lo hi everything h k = absurd h.kept
-inner_apart low high v lo hi (between a b) h k = apart v lo hi (le_trans _ _ _ k.ends.1 (le_trans _ _ _ h.kept.close (plus_mono _ _ _ _ k.ends.0 (le_refl _))))
+inner_apart low high v lo hi (between a b) h k = apart v lo hi (le_trans _ _ _ k.endpoints.1 (le_trans _ _ _ h.kept.close (plus_mono _ _ _ _ k.endpoints.0 (le_refl _))))
 
 -- nothing that is measured is everything
 pub not_all : (low high : ℤ) (v : ℕ) (i : Interval) → i ≡ everything → IsWithin low high v i → ⊥
@@ -64,8 +64,8 @@ floor_fits v (between a b) q h e =
     let r = floor_32_high (pos (2 ^ 90)) (omega (arith, ints)) in
     omega (arith, ints)
 
-pub floor_apart : (v : ℕ) (lo hi : ℤ) (i : Interval) → IsAbout (2 ^ 90) v i → IsOpenCell integers i lo hi → ((hi -ℤ lo) *ℤ pos 256) ≤ℤ pos v
-floor_apart v lo hi i h (between_cells e k) = ends_apart _ _ v lo hi i h k
+pub floor_apart : (v : ℕ) (lo hi : ℤ) (i : Interval) → IsAbout (2 ^ 90) v i → IsUndecidedCell integers i lo hi → ((hi -ℤ lo) *ℤ pos 256) ≤ℤ pos v
+floor_apart v lo hi i h (between_cells e k) = endpoints_apart _ _ v lo hi i h k
 floor_apart v lo hi i h (too_far q e f b) = absurd (f (floor_fits v i q h e))
 
 -- ---- comparisons
@@ -110,17 +110,17 @@ hull_close v u a b c d m h k =
     (swapped v u c d (in_all u v c d (le_trans _ _ _ k (no_less v _)))))
 
 pub hull_apart : (low high : ℤ) (v : ℕ) (bottom top : ℤ) (u : ℕ) (lo hi : ℤ) (i j : Interval) → IsWithin low high v i → IsWithin bottom top u j
-    → IsOpenComparison i j lo hi → ((hi -ℤ lo) *ℤ pos 256) ≤ℤ pos (v + u)
+    → IsUndecidedComparison i j lo hi → ((hi -ℤ lo) *ℤ pos 256) ≤ℤ pos (v + u)
 unfolding IsNarrow hull
 hull_apart low high v bottom top u lo hi everything j h k o = absurd h.kept
 hull_apart low high v bottom top u lo hi (between a b) everything h k o = absurd k.kept
 hull_apart low high v bottom top u lo hi (between a b) (between c d) h k o =
-    of_ends o.ends (hull_close v u a b c d (open_says a b c d o.open_there) h.kept.close k.kept.close)
+    of_endpoints o.endpoints (hull_close v u a b c d (open_says a b c d o.open_there) h.kept.close k.kept.close)
   where
-    of_ends : AreEnds lo hi (between (smaller a c) (larger b d)) → larger b d ≤F plus (smaller a c) (breadth 0 0 (v + u)) → ((hi -ℤ lo) *ℤ pos 256)
+    of_endpoints : AreEndpoints lo hi (between (smaller a c) (larger b d)) → larger b d ≤F plus (smaller a c) (breadth 0 0 (v + u)) → ((hi -ℤ lo) *ℤ pos 256)
         ≤ℤ pos (v + u)
-    of_ends (bounds l r) z = ends_of_close (v + u) _ _ lo hi l r z
+    of_endpoints (bounds l r) z = endpoints_of_close (v + u) _ _ lo hi l r z
 
 -- ---- failures
-pub close_ends : (u : Undecided) (s : Site) (v : ℕ) → u.site ≡ s → v ≤ most_apart s → ((u.hi -ℤ u.lo) *ℤ pos 256) ≤ℤ pos v → IsClose (undecided_at u)
-close_ends u s v e l h = close_test (rw e (omega (arith, ints)))
+pub close_endpoints : (u : Undecided) (s : Site) (v : ℕ) → u.site ≡ s → v ≤ most_apart s → ((u.hi -ℤ u.lo) *ℤ pos 256) ≤ℤ pos v → IsClose (undecided_at u)
+close_endpoints u s v e l h = close_test (rw e (omega (arith, ints)))

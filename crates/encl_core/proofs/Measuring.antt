@@ -74,13 +74,13 @@ looser a b c d v u (between x y) h k l n = record {
 pub narrower : (a b : ℤ) (v : ℕ) (i j : Interval) → i ⊆ j → j ⊆ i → IsWithin a b v j → IsWithin a b v i
 unfolding IsNarrow
 narrower a b v i everything h k n = absurd n.kept
-narrower a b v everything (between x y) h k n = absurd h.ends
+narrower a b v everything (between x y) h k n = absurd h.endpoints
 narrower a b v (between u t) (between x y) h k n = record {
   kept = record {
-    ordered = le_trans _ _ _ k.ends.0 (le_trans _ _ _ n.kept.ordered k.ends.1);
-    above = le_trans _ _ _ n.kept.above h.ends.0;
-    below = le_trans _ _ _ h.ends.1 n.kept.below;
-    close = le_trans _ _ _ h.ends.1 (le_trans _ _ _ n.kept.close (plus_mono x u _ _ h.ends.0 (le_refl _)));
+    ordered = le_trans _ _ _ k.endpoints.0 (le_trans _ _ _ n.kept.ordered k.endpoints.1);
+    above = le_trans _ _ _ n.kept.above h.endpoints.0;
+    below = le_trans _ _ _ h.endpoints.1 n.kept.below;
+    close = le_trans _ _ _ h.endpoints.1 (le_trans _ _ _ n.kept.close (plus_mono x u _ _ h.endpoints.0 (le_refl _)));
   };
 }
 

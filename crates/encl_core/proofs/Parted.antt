@@ -13,15 +13,15 @@ use Rattle.book_model.specs.numbers.Terms.{terms_to, terms_of}
 -- sums of three
 regrouped : (i j k : Interval) → sum (sum i j) k ⊆ sum i (sum j k)
 unfolding sum
-regrouped everything j k = record { ends = tt }
-regrouped (between a b) everything k = record { ends = tt }
-regrouped (between a b) (between c d) everything = record { ends = tt }
-regrouped (between a b) (between c d) (between e f) = record { ends = (ge_of_same (plus_assoc a c e), le_of_same (plus_assoc b d f)) }
+regrouped everything j k = record { endpoints = tt }
+regrouped (between a b) everything k = record { endpoints = tt }
+regrouped (between a b) (between c d) everything = record { endpoints = tt }
+regrouped (between a b) (between c d) (between e f) = record { endpoints = (ge_of_same (plus_assoc a c e), le_of_same (plus_assoc b d f)) }
 
 and_none : (i : Interval) → i ⊆ sum i (exactly (whole (pos 0)))
 unfolding sum
-and_none everything = record { ends = tt }
-and_none (between a b) = record { ends = (le_of_same (plus_zero a), ge_of_same (plus_zero b)) }
+and_none everything = record { endpoints = tt }
+and_none (between a b) = record { endpoints = (le_of_same (plus_zero a), ge_of_same (plus_zero b)) }
 
 module _ {R : Type 0} (w : World) (term : R → Expression) (none : R) (xs ys : List R) where
   -- the first rows

@@ -11,25 +11,25 @@ use Rattle.book_model.specs.numbers.Expressions.{Expression, argument, remainder
 use Rattle.book_model.specs.numbers.Relations.{Narrow, Keeps}
 use Rattle.book_model.specs.programs.Widths.{IsAbout, IsUpTo, IsClose, most_apart}
 use Rattle.book_model.proofs.Implying.{limits_within}
-use Rattle.encl_core.proofs.Closing.{ends_apart, floor_apart, hull_apart, close_ends}
-use Rattle.book_model.specs.programs.Leading.{IsOpenCell, IsOpenComparison}
+use Rattle.encl_core.proofs.Closing.{endpoints_apart, floor_apart, hull_apart, close_endpoints}
+use Rattle.book_model.specs.programs.Leading.{IsUndecidedCell, IsUndecidedComparison}
 use Rattle.book_model.specs.programs.Programs.{integers}
-use Rattle.encl_core.specs.Steps.{IsOpenPeriod}
+use Rattle.encl_core.specs.Steps.{IsUndecidedPeriod}
 
 -- a floor
-pub floor_close : (v : ℕ) (i : Interval) (s : Site) (u : Undecided) → u.site ≡ s → v ≤ most_apart s → IsAbout (2 ^ 90) v i → IsOpenCell integers i u.lo u.hi
+pub floor_close : (v : ℕ) (i : Interval) (s : Site) (u : Undecided) → u.site ≡ s → v ≤ most_apart s → IsAbout (2 ^ 90) v i → IsUndecidedCell integers i u.lo u.hi
     → IsClose (undecided_at u)
-floor_close v i s u e c h o = close_ends u s v e c (floor_apart v u.lo u.hi i h o)
+floor_close v i s u e c h o = close_endpoints u s v e c (floor_apart v u.lo u.hi i h o)
 
 -- a comparison
 pub less_close : (v w : ℕ) (i j : Interval) (s : Site) (u : Undecided) → u.site ≡ s → v + w ≤ most_apart s → IsAbout (2 ^ 90) v i → IsAbout (2 ^ 90) w j
-    → IsOpenComparison i j u.lo u.hi → IsClose (undecided_at u)
-less_close v w i j s u e c h k o = close_ends u s (v + w) e c (hull_apart _ _ v _ _ w u.lo u.hi i j h k o)
+    → IsUndecidedComparison i j u.lo u.hi → IsClose (undecided_at u)
+less_close v w i j s u e c h k o = close_endpoints u s (v + w) e c (hull_apart _ _ v _ _ w u.lo u.hi i j h k o)
 
 -- a wrap
-pub wrap_close : (m v : ℕ) (i : Interval) (s : Site) (u : Undecided) → u.site ≡ s → v ≤ most_apart s → IsAbout (2 ^ 90) v i → IsOpenPeriod m i u.lo u.hi
+pub wrap_close : (m v : ℕ) (i : Interval) (s : Site) (u : Undecided) → u.site ≡ s → v ≤ most_apart s → IsAbout (2 ^ 90) v i → IsUndecidedPeriod m i u.lo u.hi
     → IsClose (undecided_at u)
-wrap_close m v i s u e c h o = close_ends u s v e c (ends_apart _ _ v u.lo u.hi i h o.ends)
+wrap_close m v i s u e c h o = close_endpoints u s v e c (endpoints_apart _ _ v u.lo u.hi i h o.endpoints)
 
 -- what is left of a wrap
 pub left_within : {E : Type 0} (shown : E → Interval) (n m v : ℕ) (x y : E) → n ≡ 56 → m < 2 ^ 32 → IsAbout (2 ^ 90) v (shown x)

@@ -62,14 +62,14 @@ IsKeptWithin (NewMoon number) bits s = IsMoonWithin number bits s
 IsKeptWithin (Correction year) bits s = IsKeptAbout (2 ^ 30) (2 ^ 14) bits s
 
 -- ---- a span is cached in one way at most, so it may be a ghost field
-ends_prop : (i j : Interval) → IsProp (AreWithin i j)
-ends_prop everything everything = Unit-prop
-ends_prop (between a b) everything = Unit-prop
-ends_prop everything (between c d) = λ x y. absurd x
-ends_prop (between a b) (between c d) = Prim.hlevel facts.props
+endpoints_prop : (i j : Interval) → IsProp (AreWithin i j)
+endpoints_prop everything everything = Unit-prop
+endpoints_prop (between a b) everything = Unit-prop
+endpoints_prop everything (between c d) = λ x y. absurd x
+endpoints_prop (between a b) (between c d) = Prim.hlevel facts.props
 
 within_prop : (i j : Interval) → IsProp (i ⊆ j)
-within_prop i j = Prim.hlevel ends_prop
+within_prop i j = Prim.hlevel endpoints_prop
 
 pub IsKept-prop : (n : ℕ) (p : Program Expression) (s : Span) → IsProp (IsKept n p s)
 IsKept-prop n p s = Prim.hlevel (within_prop, facts.props)

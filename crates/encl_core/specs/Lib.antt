@@ -1,6 +1,6 @@
--- of interval_ends, re-exported
-pub use Rattle.interval_ends.specs.Units
-pub use Rattle.interval_ends.specs.declared.parts
+-- of interval_endpoints, re-exported
+pub use Rattle.interval_endpoints.specs.Units
+pub use Rattle.interval_endpoints.specs.declared.parts
 pub mod Sizes
 pub mod GreatestWidths
 pub mod Kept

@@ -7,7 +7,7 @@ use crate::{Enclosure, Span};
 use book_model::tables::{PI_ABOVE, PI_BELOW};
 
 /// Pi, between two neighbours in units of 2⁻⁵⁶.
-#[tactic(auto, using(crate::proofs::PiEnds::within_pi, crate::proofs::PiEnds::narrow_pi))]
+#[tactic(auto, using(crate::proofs::PiEndpoints::within_pi, crate::proofs::PiEndpoints::narrow_pi))]
 pub fn pi<E: Enclosure>() -> E
     ensures encloses { Encloses E.shown E.BITS pi_number result }
 {

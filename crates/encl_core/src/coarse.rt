@@ -2,21 +2,22 @@
 ghost use Rattle.std.specs.Prelude.{refl};
 ghost use Rattle.encl_core.specs.Shown.{shown_coarse, coarse_proper};
 
-use crate::fractions::frac_ends;
-use crate::turning::angle_ends;
+use crate::fractions::frac_endpoints;
+use crate::turning::angle_endpoints;
 use crate::{Enclosure, Span, Trail};
 use book_model::{Frac, Site, Undecided};
-use interval_ends::{
-    Ends, add_ends, cell_of_ends, clamp_ends, ends_at_fine_scale, ends_of_span, hull_ends,
-    int_ends, max_ends, min_ends, neg_ends, open_at, order_of_ends, period_of_ends, rest_of_period,
-    scale_ends, sub_ends, widen_ends,
+use interval_endpoints::{
+    Endpoints, add_endpoints, cell_of_endpoints, clamp_endpoints, endpoints_at_fine_scale,
+    endpoints_of_span, hull_endpoints, int_endpoints, max_endpoints, min_endpoints, neg_endpoints,
+    order_of_endpoints, period_of_endpoints, rest_of_period, scale_endpoints, sub_endpoints,
+    undecided_test_at, widen_endpoints,
 };
-use interval_products::{div_ends, mul_ends, root_ends, square_ends};
+use interval_products::{div_endpoints, mul_endpoints, root_endpoints, square_endpoints};
 
 /// An enclosure by two endpoints of 64 bits in units of 2⁻³⁶, rounded outwards; every number, where an endpoint doesn't fit.
 #[derive(Clone, Copy, Debug, PartialEq)]
 pub struct Coarse {
-    pub(crate) ends: Option<Ends<i64>>,
+    pub(crate) endpoints: Option<Endpoints<i64>>,
 }
 
 impl Enclosure for Coarse {
@@ -35,12 +36,12 @@ impl Enclosure for Coarse {
     const DEPTH: u32 = 40;
 
     fn whole() -> Self {
-        Coarse { ends: None }
+        Coarse { endpoints: None }
     }
 
     fn from_int(value: i64) -> Self {
         Coarse {
-            ends: int_ends(value),
+            endpoints: int_endpoints(value),
         }
     }
 
@@ -48,69 +49,69 @@ impl Enclosure for Coarse {
     #[inline(always)]
     fn from_frac(value: Frac) -> Self {
         Coarse {
-            ends: frac_ends(value),
+            endpoints: frac_endpoints(value),
         }
     }
 
     #[inline(always)]
     fn from_span(span: Span) -> Self {
         Coarse {
-            ends: ends_of_span(span.lo, span.hi),
+            endpoints: endpoints_of_span(span.lo, span.hi),
         }
     }
 
     fn add(self, other: Self) -> Self {
         Coarse {
-            ends: add_ends(self.ends, other.ends),
+            endpoints: add_endpoints(self.endpoints, other.endpoints),
         }
     }
 
     fn sub(self, other: Self) -> Self {
         Coarse {
-            ends: sub_ends(self.ends, other.ends),
+            endpoints: sub_endpoints(self.endpoints, other.endpoints),
         }
     }
 
     fn mul(self, other: Self) -> Self {
         Coarse {
-            ends: mul_ends(self.ends, other.ends),
+            endpoints: mul_endpoints(self.endpoints, other.endpoints),
         }
     }
 
     fn min(self, other: Self) -> Self {
         Coarse {
-            ends: min_ends(self.ends, other.ends),
+            endpoints: min_endpoints(self.endpoints, other.endpoints),
         }
     }
 
     fn max(self, other: Self) -> Self {
         Coarse {
-            ends: max_ends(self.ends, other.ends),
+            endpoints: max_endpoints(self.endpoints, other.endpoints),
         }
     }
 
     fn hull(self, other: Self) -> Self {
         Coarse {
-            ends: hull_ends(self.ends, other.ends),
+            endpoints: hull_endpoints(self.endpoints, other.endpoints),
         }
     }
 
     fn neg(self) -> Self {
         Coarse {
-            ends: neg_ends(self.ends),
+            endpoints: neg_endpoints(self.endpoints),
         }
     }
 
     fn widen(self, by: Frac) -> Self {
         Coarse {
-            ends: widen_ends(self.ends, by),
+            endpoints: widen_endpoints(self.endpoints, by),
         }
     }
 
     #[inline(always)]
     fn mul_frac(self, by: Frac) -> Self {
         Coarse {
-            ends: scale_ends(self.ends, by),
+            endpoints: scale_endpoints(self.endpoints, by),
         }
     }
 
@@ -118,62 +119,66 @@ impl Enclosure for Coarse {
     fn angle(self, phase: i64, rate: i64) -> Self {
         Coarse {
             // One quotient at each endpoint in place of three roundings.
-            ends: angle_ends(self.ends, phase, rate),
+            endpoints: angle_endpoints(self.endpoints, phase, rate),
         }
     }
 
     fn div(self, other: Self) -> Self {
         Coarse {
-            ends: div_ends(self.ends, other.ends),
+            endpoints: div_endpoints(self.endpoints, other.endpoints),
         }
     }
 
     fn square(self) -> Self {
         Coarse {
-            ends: square_ends(self.ends),
+            endpoints: square_endpoints(self.endpoints),
         }
     }
 
     fn root(self) -> Self {
         Coarse {
-            ends: root_ends(self.ends),
+            endpoints: root_endpoints(self.endpoints),
         }
     }
 
     fn clamp_unit(self) -> Self {
         Coarse {
-            ends: Some(clamp_ends(self.ends)),
+            endpoints: Some(clamp_endpoints(self.endpoints)),
         }
     }
 
     fn span(self) -> Option<Span> {
-        let (lo, hi) = ends_at_fine_scale(self.ends)?;
+        let (lo, hi) = endpoints_at_fine_scale(self.endpoints)?;
         Some(Span { lo, hi })
     }
 
     fn less(self, other: Self, site: Site, trail: &mut Trail) -> Result<bool, Undecided> {
         let turn = trail.step();
-        match order_of_ends(self.ends, other.ends) {
+        match order_of_endpoints(self.endpoints, other.endpoints) {
             Some(answer) => Ok(answer),
-            None => Err(open_at(hull_ends(self.ends, other.ends), site, turn)),
+            None => Err(undecided_test_at(
+                hull_endpoints(self.endpoints, other.endpoints),
+                site,
+                turn,
+            )),
         }
     }
 
     fn floor(self, site: Site, trail: &mut Trail) -> Result<i64, Undecided> {
         let turn = trail.step();
-        match cell_of_ends(self.ends) {
+        match cell_of_endpoints(self.endpoints) {
             Some(cell) => Ok(cell),
-            None => Err(open_at(self.ends, site, turn)),
+            None => Err(undecided_test_at(self.endpoints, site, turn)),
         }
     }
 
     fn wrap(self, modulus: u32, site: Site, trail: &mut Trail) -> Result<Self, Undecided> {
         let turn = trail.step();
-        match period_of_ends(self.ends, modulus) {
+        match period_of_endpoints(self.endpoints, modulus) {
             Some(period) => Ok(Coarse {
-                ends: rest_of_period(self.ends, modulus, period),
+                endpoints: rest_of_period(self.endpoints, modulus, period),
             }),
-            None => Err(open_at(self.ends, site, turn)),
+            None => Err(undecided_test_at(self.endpoints, site, turn)),
         }
     }
 }

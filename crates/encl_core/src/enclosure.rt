@@ -8,9 +8,9 @@ ghost use Rattle.book_model.specs.numbers.Expressions.{Expression, World, intege
 ghost use Rattle.book_model.specs.numbers.Bounds.{Bound, Reach, IsNarrow, spanned_bound, limits_of};
 ghost use Rattle.book_model.specs.numbers.Relations.{Within, Narrow};
 ghost use Rattle.book_model.specs.programs.Programs.{integers, multiples, cell_at, compare_at};
-ghost use Rattle.book_model.specs.programs.Leading.{units_of_56, IsOpenCell, IsOpenComparison, next_turn};
+ghost use Rattle.book_model.specs.programs.Leading.{units_of_56, IsUndecidedCell, IsUndecidedComparison, next_turn};
 ghost use Rattle.book_model.specs.numbers.Depth.{DEPTH as LEAST_DEPTH};
-ghost use Rattle.encl_core.specs.Steps.{IsOpenPeriod};
+ghost use Rattle.encl_core.specs.Steps.{IsUndecidedPeriod};
 
 use crate::{Span, Trail};
 use book_model::{Frac, Site, Undecided};
@@ -156,7 +156,7 @@ pub trait Enclosure: Copy + Drop {
     /// trail. `Undecided` comes exactly where it is so of some.
     fn less(self, other: Self, site: Site, trail: &mut Trail) -> Result<bool, Undecided>
         ensures decided { IfOk result (λ t. compare_at (shown self) (shown other) ≡ Some t) }
-        ensures undecided { IfErr result (λ u. IsOpenComparison (shown self)
+        ensures undecided { IfErr result (λ u. IsUndecidedComparison (shown self)
             (shown other) u.lo u.hi) }
         ensures named { IfErr result (λ u. (u.site ≡ site) × (u.turn ≡ next_turn trail.old.count)) }
         ensures counted { trail.new.count ≡ next_turn trail.old.count };
@@ -165,7 +165,7 @@ pub trait Enclosure: Copy + Drop {
     /// in the trail. `Undecided` comes exactly where they don't, and for a number outside 64 bits.
     fn floor(self, site: Site, trail: &mut Trail) -> Result<i64, Undecided>
         ensures decided { IfOk result (λ q. cell_at integers (shown self) ≡ Some q) }
-        ensures undecided { IfErr result (λ u. IsOpenCell integers (shown self) u.lo u.hi) }
+        ensures undecided { IfErr result (λ u. IsUndecidedCell integers (shown self) u.lo u.hi) }
         ensures named { IfErr result (λ u. (u.site ≡ site) × (u.turn ≡ next_turn trail.old.count)) }
         ensures counted { trail.new.count ≡ next_turn trail.old.count };
 
@@ -181,7 +181,7 @@ pub trait Enclosure: Copy + Drop {
         ensures narrow { IfOk result (λ y. (q : ℤ) (r : Reach) (x : Expression)
             → Narrow shown (limits_of BITS) r x self → Narrow shown (limits_of BITS) r
             (remainder modulus x q) y) }
-        ensures undecided { IfErr result (λ u. IsOpenPeriod modulus (shown self) u.lo u.hi) }
+        ensures undecided { IfErr result (λ u. IsUndecidedPeriod modulus (shown self) u.lo u.hi) }
         ensures named { IfErr result (λ u. (u.site ≡ site) × (u.turn ≡ next_turn trail.old.count)) }
         ensures counted { trail.new.count ≡ next_turn trail.old.count };
 }

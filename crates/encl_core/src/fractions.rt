@@ -3,10 +3,10 @@ ghost use Rattle.std.specs.Prelude.{◌≡◌, ℕ, ◌*◌, ◌^◌, ◌<◌};
 ghost use Rattle.book_model.specs.Interval.{◌⊆◌, between};
 ghost use Rattle.book_model.specs.numbers.Fractions.{fraction_of};
 ghost use Rattle.book_model.specs.numbers.Bounds.{IsNarrow, constant_bound, limits_36};
-ghost use Rattle.interval_ends.specs.Shown.{shown_ends};
+ghost use Rattle.interval_endpoints.specs.Shown.{shown_endpoints};
 
 use book_model::Frac;
-use interval_ends::{Ends, ceil_div, ends_of, ends_of_fraction, floor_div};
+use interval_endpoints::{Endpoints, ceil_div, endpoints_of, endpoints_of_fraction, floor_div};
 
 // Where a caller's denominator is a constant, the compiler takes the branch away.
 /// How many times 2³⁶ goes into a denominator; 0, where it leaves a remainder.
@@ -23,30 +23,30 @@ fn units_of(den: u64) -> u64
 
 /// The endpoints around a fraction whose denominator is so many times 2³⁶.
 #[inline(always)]
-fn fine_ends(value: Frac, units: u64) -> Option<Ends<i64>>
+fn fine_endpoints(value: Frac, units: u64) -> Option<Endpoints<i64>>
     requires some { 0 < units }
     requires denominator { value.den ≡ units * 2 ^ 36 }
-    ensures holds { between (fraction_of value) (fraction_of value) ⊆ shown_ends result }
+    ensures holds { between (fraction_of value) (fraction_of value) ⊆ shown_endpoints result }
     ensures narrow { (w : ℕ) → IsNarrow w (constant_bound limits_36 (fraction_of value))
-        (shown_ends result) }
+        (shown_endpoints result) }
 {
     let parts = value.num();
     let units = i128::from(units);
-    ends_of(floor_div(parts, units), ceil_div(parts, units))
+    endpoints_of(floor_div(parts, units), ceil_div(parts, units))
 }
 
 /// The endpoints around a fraction. Where the denominator holds the scale, as that of a number in units of 2⁻⁵⁶
 /// does, the numbers to divide stay small.
 #[inline(always)]
-pub(crate) fn frac_ends(value: Frac) -> Option<Ends<i64>>
-    ensures holds { between (fraction_of value) (fraction_of value) ⊆ shown_ends result }
+pub(crate) fn frac_endpoints(value: Frac) -> Option<Endpoints<i64>>
+    ensures holds { between (fraction_of value) (fraction_of value) ⊆ shown_endpoints result }
     ensures narrow { (w : ℕ) → IsNarrow w (constant_bound limits_36 (fraction_of value))
-        (shown_ends result) }
+        (shown_endpoints result) }
 {
     let units = units_of(value.den());
     if units > 0 {
-        fine_ends(value, units)
+        fine_endpoints(value, units)
     } else {
-        ends_of_fraction(value)
+        endpoints_of_fraction(value)
     }
 }

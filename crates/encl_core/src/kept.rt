@@ -13,9 +13,9 @@ pub struct Kept {
     asked: Asked,
     // The scale is part of the key: fine enclosures never take coarse endpoints.
     bits: u32,
-    ends: Span,
-    ghost evaluated: { IsKept (tests_of asked) (program_of asked) ends } by { IsKept-prop (tests_of asked) (program_of asked) ends },
-    ghost measured: { IsKeptWithin asked bits ends } by { IsKeptWithin-prop asked bits ends },
+    endpoints: Span,
+    ghost evaluated: { IsKept (tests_of asked) (program_of asked) endpoints } by { IsKept-prop (tests_of asked) (program_of asked) endpoints },
+    ghost measured: { IsKeptWithin asked bits endpoints } by { IsKeptWithin-prop asked bits endpoints },
 }
 
 impl Clone for Kept {
@@ -34,11 +34,15 @@ impl Kept {
     ghost use Rattle.std.specs.Prelude.{IfSome};
 
     /// What was asked, where an enclosure at scale 2 to the power of minus `bits` gave these endpoints.
-    pub(crate) fn new(asked: Asked, bits: u32, ends: Span) -> Self
-        requires evaluated { IsKept (tests_of asked) (program_of asked) ends }
-        requires measured { IsKeptWithin asked bits ends }
+    pub(crate) fn new(asked: Asked, bits: u32, endpoints: Span) -> Self
+        requires evaluated { IsKept (tests_of asked) (program_of asked) endpoints }
+        requires measured { IsKeptWithin asked bits endpoints }
     {
-        Kept { asked, bits, ends }
+        Kept {
+            asked,
+            bits,
+            endpoints,
+        }
     }
 
     /// Its endpoints, if this was asked at this scale.
@@ -58,7 +62,7 @@ impl Kept {
         ensures measured { IfSome result (IsKeptWithin self.asked bits) }
     {
         if self.bits == bits {
-            return Some(self.ends);
+            return Some(self.endpoints);
         }
         None
     }

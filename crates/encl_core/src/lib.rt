@@ -10,11 +10,11 @@
 //! - `first_day`: the search for the first day of which a `DayTest` is true;
 //! - `lies_within`: whether an enclosure lies within another;
 //! - `greatest_widths`: how wide the results of formulas are at most, a row for each;
-//! - `parts`, `high_half`, `modulo`, `amod`: of `interval_ends`, re-exported to the formulas above.
+//! - `parts`, `high_half`, `modulo`, `amod`: of `interval_endpoints`, re-exported to the formulas above.
 //!
 //! Widths through tests are said at the scale 2⁻⁵⁶ alone, for all widths of the argument (`Measured` of `Widths.antt`). That a
 //! failure's bounds are close doesn't speak of the program, and so passes through `?`. Lemmas lead from the computed bound of an
-//! expression to the width of what is enclosed (`Measuring`, `Covering`, `WaveCovers`), and from the widths of a test's sides to
+//! expression to the width of what is enclosed (`Measuring`, `Covering`, `TermCovers`), and from the widths of a test's sides to
 //! how far apart its endpoints lie where it is undecided (`Closing`).
 #![tactic(auto)]
 
@@ -37,7 +37,7 @@ pub use asked::Asked;
 pub use circle::pi;
 pub use coarse::Coarse;
 pub use enclosure::Enclosure;
-pub use interval_ends::{amod, high_half, modulo, parts};
+pub use interval_endpoints::{amod, high_half, modulo, parts};
 pub use search::{DayTest, first_day};
 pub use span::Span;
 pub use steps::{floor_step, less_step, wrap_step};

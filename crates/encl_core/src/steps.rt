@@ -7,7 +7,7 @@ ghost use Rattle.book_model.specs.numbers.Expressions.{Expression, remainder};
 ghost use Rattle.book_model.specs.programs.Leading.{next_turn};
 ghost use Rattle.book_model.specs.programs.Programs.{answer, cell, compare, integers, multiples, cell_at, compare_at};
 ghost use Rattle.book_model.specs.numbers.Relations.{Narrow};
-ghost use Rattle.encl_core.specs.Steps.{IsOpenFloor, IsOpenLess, IsOpenWrap};
+ghost use Rattle.encl_core.specs.Steps.{IsUndecidedFloor, IsUndecidedLess, IsUndecidedWrap};
 
 use crate::{Enclosure, Trail};
 use book_model::{Fail, Site};
@@ -18,7 +18,7 @@ pub fn floor_step<E: Enclosure>(x: E, site: Site, trail: &mut Trail) -> Result<i
     ensures leads { Decides1 E.shown (λ e. cell site integers e answer) x trail.old.count
         trail.new.count result }
     ensures decided { IfOk result (λ q. cell_at integers (E.shown x) ≡ Some q) }
-    ensures open { IfErr result (IsOpenFloor (E.shown x) site) }
+    ensures open { IfErr result (IsUndecidedFloor (E.shown x) site) }
     ensures close { (v : ℕ) → v ≤ most_apart site → IsAbout (2 ^ 90) v (E.shown x)
         → IfErr result IsClose }
     ensures counted { trail.new.count ≡ next_turn trail.old.count }
@@ -35,7 +35,7 @@ pub fn less_step<E: Enclosure>(x: E, y: E, site: Site, trail: &mut Trail) -> Res
     ensures leads { Decides2 E.shown (λ e f. compare site e f answer) x y trail.old.count
         trail.new.count result }
     ensures decided { IfOk result (λ t. compare_at (E.shown x) (E.shown y) ≡ Some t) }
-    ensures open { IfErr result (IsOpenLess (E.shown x) (E.shown y) site) }
+    ensures open { IfErr result (IsUndecidedLess (E.shown x) (E.shown y) site) }
     ensures close { (v u : ℕ) → v + u ≤ most_apart site → IsAbout (2 ^ 90) v (E.shown x)
         → IsAbout (2 ^ 90) u (E.shown y) → IfErr result IsClose }
     ensures counted { trail.new.count ≡ next_turn trail.old.count }
@@ -56,7 +56,7 @@ pub fn wrap_step<E: Enclosure>(x: E, modulus: u32, site: Site, trail: &mut Trail
         → Narrow E.shown (limits_of E.BITS) r e x → Narrow E.shown (limits_of E.BITS) r
         (remainder modulus e q) y) }
     ensures decided { IfOk result (λ y. IsSome (cell_at (multiples modulus) (E.shown x))) }
-    ensures open { IfErr result (IsOpenWrap modulus (E.shown x) site) }
+    ensures open { IfErr result (IsUndecidedWrap modulus (E.shown x) site) }
     ensures measured { Measured1 E.BITS E.shown (most_apart site) (IsAbout (2 ^ 90))
         (IsUpTo modulus)
         x result }

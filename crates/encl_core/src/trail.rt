@@ -84,13 +84,13 @@ impl Trail {
     // It asks for endpoints that were evaluated: what a trail caches says by its type that it is right.
     /// Caches the endpoints of what is asked, as enclosures at scale 2 to the power of minus `bits` gave them, if they did, in place of
     /// what was cached there.
-    pub fn keep(&mut self, asked: Asked, bits: u32, ends: Option<Span>)
-        requires evaluated { IfSome ends (IsKept (tests_of asked) (program_of asked)) }
-        requires measured { IfSome ends (IsKeptWithin asked bits) }
+    pub fn keep(&mut self, asked: Asked, bits: u32, endpoints: Option<Span>)
+        requires evaluated { IfSome endpoints (IsKept (tests_of asked) (program_of asked)) }
+        requires measured { IfSome endpoints (IsKeptWithin asked bits) }
         ensures counted { self.new.count ≡ self.old.count }
     {
-        if let Some(ends) = ends {
-            self.kept[asked.place()] = Some(Kept::new(asked, bits, ends));
+        if let Some(endpoints) = endpoints {
+            self.kept[asked.place()] = Some(Kept::new(asked, bits, endpoints));
         }
     }
 }

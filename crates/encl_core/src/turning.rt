@@ -3,9 +3,9 @@ ghost use Rattle.std.specs.Prelude.{◌≡◌, ℕ, pos, neg_ℤ, ◌^◌, ◌*�
 ghost use Rattle.book_model.specs.Interval.{◌⊆◌, sum, product, between};
 ghost use Rattle.book_model.specs.numbers.Bounds.{Bound, IsNarrow, sum_bound, constant_bound, scaled_bound, limits_36};
 ghost use Rattle.book_model.specs.numbers.Fractions.{ten_millionths, daily_ten_millionths};
-ghost use Rattle.interval_ends.specs.Shown.{shown_ends};
+ghost use Rattle.interval_endpoints.specs.Shown.{shown_endpoints};
 
-use interval_ends::{Ends, ceil_div, ends_of, floor_div, sorted};
+use interval_endpoints::{Endpoints, ceil_div, endpoints_of, floor_div, sorted};
 
 /// What a rate of ten-millionths a century is counted by in a day.
 const DAILY: i128 = 365_250_000_000;
@@ -32,17 +32,21 @@ fn turned(end: i64, phase: i64, rate: i64) -> i128
 /// The endpoints around a phase of ten-millionths and a rate of so many a century times the members, which are
 /// days: one quotient at each endpoint.
 #[inline(always)]
-pub(crate) fn angle_ends(x: Option<Ends<i64>>, phase: i64, rate: i64) -> Option<Ends<i64>>
+pub(crate) fn angle_endpoints(
+    x: Option<Endpoints<i64>>,
+    phase: i64,
+    rate: i64,
+) -> Option<Endpoints<i64>>
     ensures holds { sum (between (ten_millionths phase) (ten_millionths phase))
-        (product (shown_ends x) (between (daily_ten_millionths rate) (daily_ten_millionths rate)))
-        ⊆ shown_ends result }
-    ensures narrow { (w : ℕ) (a : Bound) → IsNarrow w a (shown_ends x)
+        (product (shown_endpoints x) (between (daily_ten_millionths rate) (daily_ten_millionths rate)))
+        ⊆ shown_endpoints result }
+    ensures narrow { (w : ℕ) (a : Bound) → IsNarrow w a (shown_endpoints x)
         → IsNarrow w (sum_bound limits_36 (constant_bound limits_36 (ten_millionths phase))
-        (scaled_bound limits_36 (daily_ten_millionths rate) a)) (shown_ends result) }
+        (scaled_bound limits_36 (daily_ten_millionths rate) a)) (shown_endpoints result) }
 {
     let x = x?;
     let p = turned(x.lo, phase, rate);
     let q = turned(x.hi, phase, rate);
     let (least, greatest) = sorted(p, q);
-    ends_of(floor_div(least, DAILY), ceil_div(greatest, DAILY))
+    endpoints_of(floor_div(least, DAILY), ceil_div(greatest, DAILY))
 }

@@ -15,11 +15,11 @@ fn are_between(inner: Span, outer: Span) -> bool
 
 /// Whether two endpoints lie within an enclosure.
 #[tactic(auto, using(crate::proofs::Between::then_within, crate::proofs::Between::within_all))]
-fn ends_within<E: Enclosure>(inner: Span, outer: E) -> bool
+fn endpoints_within<E: Enclosure>(inner: Span, outer: E) -> bool
     ensures within { IsTrue result → shown_span inner ⊆ E.shown outer }
 {
     match outer.span() {
-        Some(ends) => are_between(inner, ends),
+        Some(endpoints) => are_between(inner, endpoints),
         None => true,
     }
 }
@@ -30,7 +30,7 @@ pub fn lies_within<E: Enclosure>(inner: E, outer: E) -> bool
     ensures within { IsTrue result → E.shown inner ⊆ E.shown outer }
 {
     match inner.span() {
-        Some(ends) => ends_within(ends, outer),
+        Some(endpoints) => endpoints_within(endpoints, outer),
         None => false,
     }
 }

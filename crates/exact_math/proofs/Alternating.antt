@@ -140,9 +140,9 @@ atop_falls n p q h =
     (atop_step p n, (atop_step q n, (h.first, (beneath_rises n (λ k. p (suc k)) (λ k. q (suc k)) h.rest, tt))))
 
 -- the endpoints are in order, and not negative where the terms halve from the first on
-pub ends_in_order : (n : ℕ) (t : ℕ → Fraction) → zero_F ≤F t (suc n) → beneath t n ≤F atop t n
+pub endpoints_in_order : (n : ℕ) (t : ℕ → Fraction) → zero_F ≤F t (suc n) → beneath t n ≤F atop t n
 unfolding beneath atop
-ends_in_order n t h = le_by (alternating t n ∷ t (suc n) ∷ []) ((lit (pos 0) ≼ at 1) ∷ []) (at 0 ⊖ two ⊗ at 1) (at 0 ⊕ two ⊗ at 1) (natural 4 ⊠ known 0) refl
+endpoints_in_order n t h = le_by (alternating t n ∷ t (suc n) ∷ []) ((lit (pos 0) ≼ at 1) ∷ []) (at 0 ⊖ two ⊗ at 1) (at 0 ⊕ two ⊗ at 1) (natural 4 ⊠ known 0) refl
     (h, tt)
 
 -- ---- the same for the endpoints of a series, whose terms are not negative
@@ -180,5 +180,5 @@ lower_falls n p q a b h = rw (lower_is_beneath p (suc n) a, lower_is_beneath q (
 pub upper_falls : (n : ℕ) (p q : ℕ → Fraction) → zero_F ≤F p (suc (suc n)) → zero_F ≤F q (suc (suc n)) → Falling p q → upper q (suc n) ≤F upper p (suc n)
 upper_falls n p q a b h = rw (upper_is_atop p (suc n) a, upper_is_atop q (suc n) b) (atop_falls n p q h)
 
-pub sum_ends_in_order : (n : ℕ) (t : ℕ → Fraction) → zero_F ≤F t (suc n) → lower t n ≤F upper t n
-sum_ends_in_order n t h = rw (lower_is_beneath t n h, upper_is_atop t n h) (ends_in_order n t h)
+pub sum_endpoints_in_order : (n : ℕ) (t : ℕ → Fraction) → zero_F ≤F t (suc n) → lower t n ≤F upper t n
+sum_endpoints_in_order n t h = rw (lower_is_beneath t n h, upper_is_atop t n h) (endpoints_in_order n t h)

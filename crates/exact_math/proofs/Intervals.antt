@@ -74,41 +74,41 @@ product_holds (between a b) (between c d) x y h k =
 
 -- ---- narrower operands
 pub within_everything : (i : Interval) → i ⊆ everything
-within_everything i = record { ends = tt }
+within_everything i = record { endpoints = tt }
 
 pub within_trans : {i j k : Interval} → i ⊆ j → j ⊆ k → i ⊆ k
-within_trans {i} {j} {k} h g = record { ends = by_ends i j k h.ends g.ends }
+within_trans {i} {j} {k} h g = record { endpoints = by_endpoints i j k h.endpoints g.endpoints }
   where
-    by_ends : (i j k : Interval) → AreWithin i j → AreWithin j k → AreWithin i k
-    by_ends i j everything h g = tt
-    by_ends i everything (between e f) h g = absurd g
-    by_ends everything (between c d) (between e f) h g = absurd h
-    by_ends (between a b) (between c d) (between e f) h g = (le_trans e c a g.0 h.0, le_trans b d f h.1 g.1)
+    by_endpoints : (i j k : Interval) → AreWithin i j → AreWithin j k → AreWithin i k
+    by_endpoints i j everything h g = tt
+    by_endpoints i everything (between e f) h g = absurd g
+    by_endpoints everything (between c d) (between e f) h g = absurd h
+    by_endpoints (between a b) (between c d) (between e f) h g = (le_trans e c a g.0 h.0, le_trans b d f h.1 g.1)
 
-sum_ends : (i i' j j' : Interval) → AreWithin i i' → AreWithin j j' → AreWithin (sum i j) (sum i' j')
+sum_endpoints : (i i' j j' : Interval) → AreWithin i i' → AreWithin j j' → AreWithin (sum i j) (sum i' j')
 unfolding sum
-sum_ends i everything j j' h k = tt
-sum_ends i (between a' b') j everything h k = tt
-sum_ends everything (between a' b') j (between c' d') h k = absurd h
-sum_ends (between a b) (between a' b') everything (between c' d') h k = absurd k
-sum_ends (between a b) (between a' b') (between c d) (between c' d') h k = (plus_mono a' a c' c h.0 k.0, plus_mono b b' d d' h.1 k.1)
+sum_endpoints i everything j j' h k = tt
+sum_endpoints i (between a' b') j everything h k = tt
+sum_endpoints everything (between a' b') j (between c' d') h k = absurd h
+sum_endpoints (between a b) (between a' b') everything (between c' d') h k = absurd k
+sum_endpoints (between a b) (between a' b') (between c d) (between c' d') h k = (plus_mono a' a c' c h.0 k.0, plus_mono b b' d d' h.1 k.1)
 
 pub sum_within : {i i' j j' : Interval} → i ⊆ i' → j ⊆ j' → sum i j ⊆ sum i' j'
-sum_within {i} {i'} {j} {j'} h k = record { ends = sum_ends i i' j j' h.ends k.ends }
+sum_within {i} {i'} {j} {j'} h k = record { endpoints = sum_endpoints i i' j j' h.endpoints k.endpoints }
 
 -- the endpoints of a proper interval within another are members of that
-ends_within : (a b c d : Fraction) → a ≤F b → AreWithin (between a b) (between c d) → IsMember a (between c d) × IsMember b (between c d)
-ends_within a b c d p h = ((h.0, le_trans a b d p h.1), (le_trans c a b h.0 p, h.1))
+endpoints_within : (a b c d : Fraction) → a ≤F b → AreWithin (between a b) (between c d) → IsMember a (between c d) × IsMember b (between c d)
+endpoints_within a b c d p h = ((h.0, le_trans a b d p h.1), (le_trans c a b h.0 p, h.1))
 
-product_ends : (i i' j j' : Interval) → IsProper i → IsProper j → AreWithin i i' → AreWithin j j' → AreWithin (product i j) (product i' j')
+product_endpoints : (i i' j j' : Interval) → IsProper i → IsProper j → AreWithin i i' → AreWithin j j' → AreWithin (product i j) (product i' j')
 unfolding product
-product_ends i everything j j' p q h k = tt
-product_ends i (between a' b') j everything p q h k = tt
-product_ends everything (between a' b') j (between c' d') p q h k = absurd h
-product_ends (between a b) (between a' b') everything (between c' d') p q h k = absurd k
-product_ends (between a b) (between a' b') (between c d) (between c' d') p q h k =
-    let m = ends_within a b a' b' p h in
-    let n = ends_within c d c' d' q k in
+product_endpoints i everything j j' p q h k = tt
+product_endpoints i (between a' b') j everything p q h k = tt
+product_endpoints everything (between a' b') j (between c' d') p q h k = absurd h
+product_endpoints (between a b) (between a' b') everything (between c' d') p q h k = absurd k
+product_endpoints (between a b) (between a' b') (between c d) (between c' d') p q h k =
+    let m = endpoints_within a b a' b' p h in
+    let n = endpoints_within c d c' d' q k in
     let ac : IsMember (times a c) (product (between a' b') (between c' d')) = product_holds (between a' b') (between c' d') a c m.0 n.0 in
     let ad : IsMember (times a d) (product (between a' b') (between c' d')) = product_holds (between a' b') (between c' d') a d m.0 n.1 in
     let bc : IsMember (times b c) (product (between a' b') (between c' d')) = product_holds (between a' b') (between c' d') b c m.1 n.0 in
@@ -118,39 +118,39 @@ product_ends (between a b) (between a' b') (between c d) (between c' d') p q h k
     )
 
 pub product_within : {i i' j j' : Interval} → IsProper i → IsProper j → i ⊆ i' → j ⊆ j' → product i j ⊆ product i' j'
-product_within {i} {i'} {j} {j'} p q h k = record { ends = product_ends i i' j j' p q h.ends k.ends }
+product_within {i} {i'} {j} {j'} p q h k = record { endpoints = product_endpoints i i' j j' p q h.endpoints k.endpoints }
 
 -- ---- the other operations
 -- an operation's endpoints, where both operands are bounded
-negative_ends : (i i' : Interval) → AreWithin i i' → AreWithin (negative i) (negative i')
+negative_endpoints : (i i' : Interval) → AreWithin i i' → AreWithin (negative i) (negative i')
 unfolding negative
-negative_ends i everything h = tt
-negative_ends everything (between a' b') h = absurd h
-negative_ends (between a b) (between a' b') h = (opposite_mono b b' h.1, opposite_mono a' a h.0)
+negative_endpoints i everything h = tt
+negative_endpoints everything (between a' b') h = absurd h
+negative_endpoints (between a b) (between a' b') h = (opposite_mono b b' h.1, opposite_mono a' a h.0)
 
-minimum_ends : (i i' j j' : Interval) → AreWithin i i' → AreWithin j j' → AreWithin (minimum i j) (minimum i' j')
+minimum_endpoints : (i i' j j' : Interval) → AreWithin i i' → AreWithin j j' → AreWithin (minimum i j) (minimum i' j')
 unfolding minimum
-minimum_ends i everything j j' h k = tt
-minimum_ends i (between a' b') j everything h k = tt
-minimum_ends everything (between a' b') j (between c' d') h k = absurd h
-minimum_ends (between a b) (between a' b') everything (between c' d') h k = absurd k
-minimum_ends (between a b) (between a' b') (between c d) (between c' d') h k = (smaller_mono a' a c' c h.0 k.0, smaller_mono b b' d d' h.1 k.1)
+minimum_endpoints i everything j j' h k = tt
+minimum_endpoints i (between a' b') j everything h k = tt
+minimum_endpoints everything (between a' b') j (between c' d') h k = absurd h
+minimum_endpoints (between a b) (between a' b') everything (between c' d') h k = absurd k
+minimum_endpoints (between a b) (between a' b') (between c d) (between c' d') h k = (smaller_mono a' a c' c h.0 k.0, smaller_mono b b' d d' h.1 k.1)
 
-maximum_ends : (i i' j j' : Interval) → AreWithin i i' → AreWithin j j' → AreWithin (maximum i j) (maximum i' j')
+maximum_endpoints : (i i' j j' : Interval) → AreWithin i i' → AreWithin j j' → AreWithin (maximum i j) (maximum i' j')
 unfolding maximum
-maximum_ends i everything j j' h k = tt
-maximum_ends i (between a' b') j everything h k = tt
-maximum_ends everything (between a' b') j (between c' d') h k = absurd h
-maximum_ends (between a b) (between a' b') everything (between c' d') h k = absurd k
-maximum_ends (between a b) (between a' b') (between c d) (between c' d') h k = (larger_mono a' a c' c h.0 k.0, larger_mono b b' d d' h.1 k.1)
+maximum_endpoints i everything j j' h k = tt
+maximum_endpoints i (between a' b') j everything h k = tt
+maximum_endpoints everything (between a' b') j (between c' d') h k = absurd h
+maximum_endpoints (between a b) (between a' b') everything (between c' d') h k = absurd k
+maximum_endpoints (between a b) (between a' b') (between c d) (between c' d') h k = (larger_mono a' a c' c h.0 k.0, larger_mono b b' d d' h.1 k.1)
 
-hull_ends : (i i' j j' : Interval) → AreWithin i i' → AreWithin j j' → AreWithin (hull i j) (hull i' j')
+hull_endpoints : (i i' j j' : Interval) → AreWithin i i' → AreWithin j j' → AreWithin (hull i j) (hull i' j')
 unfolding hull
-hull_ends i everything j j' h k = tt
-hull_ends i (between a' b') j everything h k = tt
-hull_ends everything (between a' b') j (between c' d') h k = absurd h
-hull_ends (between a b) (between a' b') everything (between c' d') h k = absurd k
-hull_ends (between a b) (between a' b') (between c d) (between c' d') h k = (smaller_mono a' a c' c h.0 k.0, larger_mono b b' d d' h.1 k.1)
+hull_endpoints i everything j j' h k = tt
+hull_endpoints i (between a' b') j everything h k = tt
+hull_endpoints everything (between a' b') j (between c' d') h k = absurd h
+hull_endpoints (between a b) (between a' b') everything (between c' d') h k = absurd k
+hull_endpoints (between a b) (between a' b') (between c d) (between c' d') h k = (smaller_mono a' a c' c h.0 k.0, larger_mono b b' d d' h.1 k.1)
 
 clamped_mono : (x y : Fraction) → x ≤F y → larger minus_one (smaller x one) ≤F larger minus_one (smaller y one)
 clamped_mono x y h = larger_mono minus_one minus_one (smaller x one) (smaller y one) (le_refl minus_one) (smaller_mono x y one one h (le_refl one))
@@ -161,18 +161,18 @@ minus_one_below = record { cross = omega (arith, ints) }
 clamped_in : (x : Fraction) → (minus_one ≤F larger minus_one (smaller x one)) × (larger minus_one (smaller x one) ≤F one)
 clamped_in x = (larger_first minus_one (smaller x one), larger_keeps (λ z. z ≤F one) minus_one (smaller x one) minus_one_below (smaller_second x one))
 
-clamp_ends : (i i' : Interval) → AreWithin i i' → AreWithin (clamp i) (clamp i')
+clamp_endpoints : (i i' : Interval) → AreWithin i i' → AreWithin (clamp i) (clamp i')
 unfolding clamp
-clamp_ends everything everything h = (le_refl minus_one, le_refl one)
-clamp_ends (between a b) everything h = ((clamped_in a).0, (clamped_in b).1)
-clamp_ends everything (between a' b') h = absurd h
-clamp_ends (between a b) (between a' b') h = (clamped_mono a' a h.0, clamped_mono b b' h.1)
+clamp_endpoints everything everything h = (le_refl minus_one, le_refl one)
+clamp_endpoints (between a b) everything h = ((clamped_in a).0, (clamped_in b).1)
+clamp_endpoints everything (between a' b') h = absurd h
+clamp_endpoints (between a b) (between a' b') h = (clamped_mono a' a h.0, clamped_mono b b' h.1)
 
-widen_ends : (e : Fraction) (i i' : Interval) → AreWithin i i' → AreWithin (widen e i) (widen e i')
+widen_endpoints : (e : Fraction) (i i' : Interval) → AreWithin i i' → AreWithin (widen e i) (widen e i')
 unfolding widen
-widen_ends e i everything h = tt
-widen_ends e everything (between a' b') h = absurd h
-widen_ends e (between a b) (between a' b') h = (
+widen_endpoints e i everything h = tt
+widen_endpoints e everything (between a' b') h = absurd h
+widen_endpoints e (between a b) (between a' b') h = (
   plus_mono a' a (opposite (size e)) (opposite (size e)) h.0 (le_refl _),
   plus_mono b b' (size e) (size e) h.1 (le_refl _),
 )
@@ -215,13 +215,13 @@ reciprocal_proper : (c d : Fraction) → c ≤F d → excludes_zero c d ≡ true
 reciprocal_proper c d l e =
     elim (excluded c d l e) [ inl s ↦ reciprocal_anti_positive c d s.0 s.1 l | inr s ↦ reciprocal_anti_negative c d s.0 s.1 l ]
 
-quotient_ends : (i i' j j' : Interval) → IsProper i → IsProper j → AreWithin i i' → AreWithin j j' → AreWithin (quotient i j) (quotient i' j')
+quotient_endpoints : (i i' j j' : Interval) → IsProper i → IsProper j → AreWithin i i' → AreWithin j j' → AreWithin (quotient i j) (quotient i' j')
 unfolding quotient
-quotient_ends i everything j j' p q h k = tt
-quotient_ends i (between a' b') j everything p q h k = tt
-quotient_ends everything (between a' b') j (between c' d') p q h k = absurd h
-quotient_ends (between a b) (between a' b') everything (between c' d') p q h k = absurd k
-quotient_ends (between a b) (between a' b') (between c d) (between c' d') p q h k = by_test (excludes_zero c' d') refl
+quotient_endpoints i everything j j' p q h k = tt
+quotient_endpoints i (between a' b') j everything p q h k = tt
+quotient_endpoints everything (between a' b') j (between c' d') p q h k = absurd h
+quotient_endpoints (between a b) (between a' b') everything (between c' d') p q h k = absurd k
+quotient_endpoints (between a b) (between a' b') (between c d) (between c' d') p q h k = by_test (excludes_zero c' d') refl
   where
     by_test : (t : Bool) → excludes_zero c' d' ≡ t → AreWithin
         (cond (excludes_zero c d) (product (between a b) (between (reciprocal d) (reciprocal c))) everything)
@@ -229,11 +229,11 @@ quotient_ends (between a b) (between a' b') (between c d) (between c' d') p q h 
     by_test false e = tt
     by_test true e =
         let r = reciprocals c d c' d' q e k.0 k.1 in
-        rw r.0 (product_ends (between a b) (between a' b') (between (reciprocal d) (reciprocal c)) (between (reciprocal d') (reciprocal c')) p
+        rw r.0 (product_endpoints (between a b) (between a' b') (between (reciprocal d) (reciprocal c)) (between (reciprocal d') (reciprocal c')) p
         (reciprocal_proper c d q r.0) h r.1)
 
 pub quotient_within : {i i' j j' : Interval} → IsProper i → IsProper j → i ⊆ i' → j ⊆ j' → quotient i j ⊆ quotient i' j'
-quotient_within {i} {i'} {j} {j'} p q h k = record { ends = quotient_ends i i' j j' p q h.ends k.ends }
+quotient_within {i} {i'} {j} {j'} p q h k = record { endpoints = quotient_endpoints i i' j j' p q h.endpoints k.endpoints }
 
 pub quotient_holds : (i : Interval) (c d x y : Fraction) → c ≤F d → excludes_zero c d ≡ true → IsMember x i → IsMember y (between c d)
     → IsMember (times x (reciprocal y)) (quotient i (between c d))
@@ -277,17 +277,17 @@ power_holds k (between a b) x h = by_test (is_even k) refl
     by_test true e = (even_above k a b x e h.0 h.1, even_below k a b x e h.0 h.1)
     by_test false e = (power_odd_mono k a x e h.0, power_odd_mono k x b e h.1)
 
-power_ends : (k : ℕ) (i i' : Interval) → IsProper i → AreWithin i i' → AreWithin (interval_power i k) (interval_power i' k)
+power_endpoints : (k : ℕ) (i i' : Interval) → IsProper i → AreWithin i i' → AreWithin (interval_power i k) (interval_power i' k)
 unfolding interval_power
-power_ends k i everything p h = tt
-power_ends k everything (between a' b') p h = absurd h
-power_ends k (between a b) (between a' b') p h = by_test (is_even k) refl
+power_endpoints k i everything p h = tt
+power_endpoints k everything (between a' b') p h = absurd h
+power_endpoints k (between a b) (between a' b') p h = by_test (is_even k) refl
   where
     by_test : (t : Bool) → is_even k ≡ t → AreWithin (cond t (between (least_even a b k) (larger (power a k) (power b k))) (between (power a k) (power b k)))
         (cond t (between (least_even a' b' k) (larger (power a' k) (power b' k))) (between (power a' k) (power b' k)))
     by_test false e = (power_odd_mono k a' a e h.0, power_odd_mono k b b' e h.1)
     by_test true e =
-        let m = ends_within a b a' b' p h in (
+        let m = endpoints_within a b a' b' p h in (
           least_even_keeps k a b (λ z. least_even a' b' k ≤F z) (λ _. even_above k a' b' a e m.0.0 m.0.1) (λ _. even_above k a' b' b e m.1.0 m.1.1)
               (λ u v. even_above k a' b' zero_fraction e (le_trans _ _ _ m.0.0 u) (le_trans _ _ _ v m.1.1)),
           larger_keeps (λ z. z ≤F larger (power a' k) (power b' k)) (power a k) (power b k) (even_below k a' b' a e m.0.0 m.0.1)
@@ -295,7 +295,7 @@ power_ends k (between a b) (between a' b') p h = by_test (is_even k) refl
         )
 
 pub power_within : (k : ℕ) {i i' : Interval} → IsProper i → i ⊆ i' → interval_power i k ⊆ interval_power i' k
-power_within k {i} {i'} p h = record { ends = power_ends k i i' p h.ends }
+power_within k {i} {i'} p h = record { endpoints = power_endpoints k i i' p h.endpoints }
 
 -- ---- results are proper, and the smallest
 pub plus_proper : (i j : Interval) → IsProper i → IsProper j → IsProper (sum i j)
@@ -325,20 +325,20 @@ product_smallest : (a b c d : Fraction) (k : Interval) → a ≤F b → c ≤F d
     → ((x y : Fraction) → IsMember x (between a b) → IsMember y (between c d) → IsMember (times x y) k)
     → product (between a b) (between c d) ⊆ k
 unfolding product
-product_smallest a b c d everything p q h = record { ends = tt }
+product_smallest a b c d everything p q h = record { endpoints = tt }
 product_smallest a b c d (between e f) p q h =
     let ac = h a c (le_refl a, p) (le_refl c, q) in
     let ad = h a d (le_refl a, p) (q, le_refl d) in
     let bc = h b c (p, le_refl b) (le_refl c, q) in
     let bd = h b d (p, le_refl b) (q, le_refl d) in
-    record { ends = (least_is e _ _ _ _ ac.0 ad.0 bc.0 bd.0, greatest_is f _ _ _ _ ac.1 ad.1 bc.1 bd.1) }
+    record { endpoints = (least_is e _ _ _ _ ac.0 ad.0 bc.0 bd.0, greatest_is f _ _ _ _ ac.1 ad.1 bc.1 bd.1) }
 
 -- what holds each power of a member holds the interval of the powers
 pub power_smallest : (k : ℕ) (a b : Fraction) (j : Interval) → a ≤F b → ((x : Fraction) → IsMember x (between a b) → IsMember (power x k) j)
     → interval_power (between a b) k ⊆ j
 unfolding interval_power
-power_smallest k a b everything p h = record { ends = tt }
-power_smallest k a b (between c d) p h = record { ends = by_test (is_even k) refl }
+power_smallest k a b everything p h = record { endpoints = tt }
+power_smallest k a b (between c d) p h = record { endpoints = by_test (is_even k) refl }
   where
     ha : IsMember (power a k) (between c d)
     ha = h a (le_refl a, p)
@@ -356,32 +356,32 @@ power_smallest k a b (between c d) p h = record { ends = by_test (is_even k) ref
 
 -- ---- each operation is monotone under inclusion
 pub within_refl : (i : Interval) → i ⊆ i
-within_refl i = record { ends = by_ends i }
+within_refl i = record { endpoints = by_endpoints i }
   where
-    by_ends : (i : Interval) → AreWithin i i
-    by_ends everything = tt
-    by_ends (between a b) = (le_refl a, le_refl b)
+    by_endpoints : (i : Interval) → AreWithin i i
+    by_endpoints everything = tt
+    by_endpoints (between a b) = (le_refl a, le_refl b)
 
 pub negative_within : {i i' : Interval} → i ⊆ i' → negative i ⊆ negative i'
-negative_within {i} {i'} h = record { ends = negative_ends i i' h.ends }
+negative_within {i} {i'} h = record { endpoints = negative_endpoints i i' h.endpoints }
 
 pub difference_within : {i i' j j' : Interval} → i ⊆ i' → j ⊆ j' → difference i j ⊆ difference i' j'
 difference_within h k = sum_within h (negative_within k)
 
 pub minimum_within : {i i' j j' : Interval} → i ⊆ i' → j ⊆ j' → minimum i j ⊆ minimum i' j'
-minimum_within {i} {i'} {j} {j'} h k = record { ends = minimum_ends i i' j j' h.ends k.ends }
+minimum_within {i} {i'} {j} {j'} h k = record { endpoints = minimum_endpoints i i' j j' h.endpoints k.endpoints }
 
 pub maximum_within : {i i' j j' : Interval} → i ⊆ i' → j ⊆ j' → maximum i j ⊆ maximum i' j'
-maximum_within {i} {i'} {j} {j'} h k = record { ends = maximum_ends i i' j j' h.ends k.ends }
+maximum_within {i} {i'} {j} {j'} h k = record { endpoints = maximum_endpoints i i' j j' h.endpoints k.endpoints }
 
 pub hull_within : {i i' j j' : Interval} → i ⊆ i' → j ⊆ j' → hull i j ⊆ hull i' j'
-hull_within {i} {i'} {j} {j'} h k = record { ends = hull_ends i i' j j' h.ends k.ends }
+hull_within {i} {i'} {j} {j'} h k = record { endpoints = hull_endpoints i i' j j' h.endpoints k.endpoints }
 
 pub clamp_within : {i i' : Interval} → i ⊆ i' → clamp i ⊆ clamp i'
-clamp_within {i} {i'} h = record { ends = clamp_ends i i' h.ends }
+clamp_within {i} {i'} h = record { endpoints = clamp_endpoints i i' h.endpoints }
 
 pub widen_within : (e : Fraction) {i i' : Interval} → i ⊆ i' → widen e i ⊆ widen e i'
-widen_within e {i} {i'} h = record { ends = widen_ends e i i' h.ends }
+widen_within e {i} {i'} h = record { endpoints = widen_endpoints e i i' h.endpoints }
 
 -- ---- each operation keeps intervals proper
 pub negative_proper : (i : Interval) → IsProper i → IsProper (negative i)
@@ -451,8 +451,8 @@ negative_holds (between a b) x h = opposite_between a b x h.0 h.1
 negative_smallest : (a b : Fraction) (k : Interval) → a ≤F b → ((x : Fraction) → IsMember x (between a b) → IsMember (opposite x) k)
     → negative (between a b) ⊆ k
 unfolding negative
-negative_smallest a b everything p h = record { ends = tt }
-negative_smallest a b (between c d) p h = record { ends = ((h b (p, le_refl b)).0, (h a (le_refl a, p)).1) }
+negative_smallest a b everything p h = record { endpoints = tt }
+negative_smallest a b (between c d) p h = record { endpoints = ((h b (p, le_refl b)).0, (h a (le_refl a, p)).1) }
 
 pub minimum_holds : (i j : Interval) (x y : Fraction) → IsMember x i → IsMember y j → IsMember (smaller x y) (minimum i j)
 unfolding minimum
@@ -494,29 +494,29 @@ sum_smallest : (a b c d : Fraction) (j : Interval) → a ≤F b → c ≤F d
     → ((x y : Fraction) → IsMember x (between a b) → IsMember y (between c d) → IsMember (plus x y) j)
     → sum (between a b) (between c d) ⊆ j
 unfolding sum
-sum_smallest a b c d everything p q h = record { ends = tt }
-sum_smallest a b c d (between e f) p q h = record { ends = ((h a c (le_refl a, p) (le_refl c, q)).0, (h b d (p, le_refl b) (q, le_refl d)).1) }
+sum_smallest a b c d everything p q h = record { endpoints = tt }
+sum_smallest a b c d (between e f) p q h = record { endpoints = ((h a c (le_refl a, p) (le_refl c, q)).0, (h b d (p, le_refl b) (q, le_refl d)).1) }
 
 minimum_smallest : (a b c d : Fraction) (j : Interval) → a ≤F b → c ≤F d
     → ((x y : Fraction) → IsMember x (between a b) → IsMember y (between c d) → IsMember (smaller x y) j)
     → minimum (between a b) (between c d) ⊆ j
 unfolding minimum
-minimum_smallest a b c d everything p q h = record { ends = tt }
-minimum_smallest a b c d (between e f) p q h = record { ends = ((h a c (le_refl a, p) (le_refl c, q)).0, (h b d (p, le_refl b) (q, le_refl d)).1) }
+minimum_smallest a b c d everything p q h = record { endpoints = tt }
+minimum_smallest a b c d (between e f) p q h = record { endpoints = ((h a c (le_refl a, p) (le_refl c, q)).0, (h b d (p, le_refl b) (q, le_refl d)).1) }
 
 maximum_smallest : (a b c d : Fraction) (j : Interval) → a ≤F b → c ≤F d
     → ((x y : Fraction) → IsMember x (between a b) → IsMember y (between c d) → IsMember (larger x y) j)
     → maximum (between a b) (between c d) ⊆ j
 unfolding maximum
-maximum_smallest a b c d everything p q h = record { ends = tt }
-maximum_smallest a b c d (between e f) p q h = record { ends = ((h a c (le_refl a, p) (le_refl c, q)).0, (h b d (p, le_refl b) (q, le_refl d)).1) }
+maximum_smallest a b c d everything p q h = record { endpoints = tt }
+maximum_smallest a b c d (between e f) p q h = record { endpoints = ((h a c (le_refl a, p) (le_refl c, q)).0, (h b d (p, le_refl b) (q, le_refl d)).1) }
 
 -- what holds both intervals holds their hull
 pub hull_smallest : (a b c d : Fraction) (j : Interval) → between a b ⊆ j → between c d ⊆ j → hull (between a b) (between c d) ⊆ j
 unfolding hull
-hull_smallest a b c d everything h k = record { ends = tt }
+hull_smallest a b c d everything h k = record { endpoints = tt }
 hull_smallest a b c d (between e f) h k = record {
-  ends = (smaller_keeps (λ z. e ≤F z) a c h.ends.0 k.ends.0, larger_keeps (λ z. z ≤F f) b d h.ends.1 k.ends.1);
+  endpoints = (smaller_keeps (λ z. e ≤F z) a c h.endpoints.0 k.endpoints.0, larger_keeps (λ z. z ≤F f) b d h.endpoints.1 k.endpoints.1);
 }
 
 -- ---- the operations of which all of this is so

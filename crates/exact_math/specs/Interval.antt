@@ -24,7 +24,7 @@ AreWithin (between a b) (between c d) = (c ≤F a) × (b ≤F d)
 
 infix 50 ◌⊆◌
 pub record ◌⊆◌ (i j : Interval) : Type 0 where
-  pub ends : AreWithin i j
+  pub endpoints : AreWithin i j
 
 unfoldable pub sum : Interval → Interval → Interval
 sum everything j = everything

@@ -16,8 +16,8 @@ use Rattle.book_model.specs.numbers.Relations.{Narrow}
 use Rattle.time_scales.proofs.CorrectionValues.{dt_value, year_small}
 use Rattle.book_model.proofs.FactRuns.{sun_value}
 use Rattle.book_model.proofs.Leads.{leads_value}
-use Rattle.encl_core.specs.Steps.{IsOpenFloor}
-use Rattle.time_scales.specs.Steps.{IsYearOpenFor, IsNotOfYear, IsNoEarlyYear}
+use Rattle.encl_core.specs.Steps.{IsUndecidedFloor}
+use Rattle.time_scales.specs.Steps.{IsYearUndecidedFor, IsNotOfYear, IsNoEarlyYear}
 use Rattle.time_scales.proofs.WholeDays.{closed_year, year_enclosed}
 
 -- a failure that isn't at the year is none at it by the first tests
@@ -28,13 +28,13 @@ none_early (Void s) h = tt
 -- a failure at a whole day, where it is at the year of that alone, is not at the year
 pub day_not_of_year : {E : Type 0} (shown : E → Interval) (bits : ℕ) (d : ℤ) (e : E) (f : Fail) → 36 ≤ bits → bits ≤ 56 → IsValueDay d
     → ((r : Reach) → Narrow shown (limits_of bits) r (integer d) e)
-    → IsYearOpenFor (shown e) f → IsNoEarlyYear f
+    → IsYearUndecidedFor (shown e) f → IsNoEarlyYear f
 day_not_of_year shown bits d e f p q h n o =
     let y = year_small d h in
     none_early f (closed_year (shown e) (year_of_day d) f (year_enclosed shown bits d e p q h (n _)) (omega (arith, ints, y.0, y.1)) o)
 
 -- nor is an undecided rounding, or a void
-pub round_not_of_year : (i : Interval) (f : Fail) → IsOpenFloor i Round f → IsNoEarlyYear f
+pub round_not_of_year : (i : Interval) (f : Fail) → IsUndecidedFloor i Round f → IsNoEarlyYear f
 round_not_of_year i (undecided_at u) o = λ e t. let r = o.1 in absurd (cc)
 round_not_of_year i (Void s) o = tt
 

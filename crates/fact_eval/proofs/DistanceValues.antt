@@ -45,14 +45,14 @@ product_between a b c d l h everything j p f g x y = tt
 product_between a b c d l h (between s t) everything p f g x y = tt
 product_between a b c d l h (between s t) (between u v) p f g x y = between_of_within l h _
     (within_trans (product_within {i = between s t} {i' = between (whole a) (whole b)} {j = between u v} {j' = between (whole c) (whole d)} f g
-    (record { ends = x }) (record { ends = y })) p)
+    (record { endpoints = x }) (record { endpoints = y })) p)
 
 square_between : (a b l h : ℤ) (i : Interval) → interval_power (between (whole a) (whole b)) 2 ⊆ between (whole l) (whole h)
     → IsProper i → IsBetween a b i → IsBetween l h (interval_power i 2)
 unfolding interval_power
 square_between a b l h everything p f x = tt
 square_between a b l h (between s t) p f x = between_of_within l h _
-    (within_trans (power_within 2 {i = between s t} {i' = between (whole a) (whole b)} f (record { ends = x })) p)
+    (within_trans (power_within 2 {i = between s t} {i' = between (whole a) (whole b)} f (record { endpoints = x })) p)
 
 -- ---- the factor of the eccentricity
 -- where the centuries lie
@@ -61,15 +61,15 @@ AreCenturiesAt w c = IsBetween (negsuc 25) (pos 2) (value w c)
 
 squares_of_centuries : interval_power (between (whole (negsuc 25)) (whole (pos 2))) 2 ⊆ between (whole (pos 0)) (whole (pos 676))
 unfolding interval_power fraction_power least_even times smaller larger is_at_most
-squares_of_centuries = record { ends = (record { cross = omega (arith, ints) }, record { cross = omega (arith, ints) }) }
+squares_of_centuries = record { endpoints = (record { cross = omega (arith, ints) }, record { cross = omega (arith, ints) }) }
 
 linear_part : product (between (whole (negsuc 25)) (whole (pos 2))) (exactly (fraction_of ECCENTRICITY_FACTOR.linear)) ⊆ between (whole (negsuc 0)) (whole (pos 1))
 unfolding product least greatest smaller larger times is_at_most
-linear_part = record { ends = (record { cross = omega (arith, ints) }, record { cross = omega (arith, ints) }) }
+linear_part = record { endpoints = (record { cross = omega (arith, ints) }, record { cross = omega (arith, ints) }) }
 
 square_part : product (between (whole (pos 0)) (whole (pos 676))) (exactly (fraction_of ECCENTRICITY_FACTOR.square)) ⊆ between (whole (negsuc 0)) (whole (pos 0))
 unfolding product least greatest smaller larger times is_at_most
-square_part = record { ends = (record { cross = omega (arith, ints) }, record { cross = omega (arith, ints) }) }
+square_part = record { endpoints = (record { cross = omega (arith, ints) }, record { cross = omega (arith, ints) }) }
 
 unit_between : (w : World) → IsBetween (pos 1) (pos 1) (value w (constant (fraction_of ECCENTRICITY_FACTOR.constant)))
 unfolding value
@@ -105,15 +105,15 @@ cosine_between w x = between_of_within (negsuc 0) (pos 1) _
 
 four_squares : interval_power (between (whole (negsuc 0)) (whole (pos 2))) 2 ⊆ between (whole (pos 0)) (whole (pos 4))
 unfolding interval_power fraction_power least_even times smaller larger is_at_most
-four_squares = record { ends = (record { cross = omega (arith, ints) }, record { cross = omega (arith, ints) }) }
+four_squares = record { endpoints = (record { cross = omega (arith, ints) }, record { cross = omega (arith, ints) }) }
 
 once : product (between (whole (negsuc 0)) (whole (pos 2))) (between (whole (negsuc 0)) (whole (pos 1))) ⊆ between (whole (negsuc 3)) (whole (pos 4))
 unfolding product least greatest smaller larger times is_at_most
-once = record { ends = (record { cross = omega (arith, ints) }, record { cross = omega (arith, ints) }) }
+once = record { endpoints = (record { cross = omega (arith, ints) }, record { cross = omega (arith, ints) }) }
 
 twice : product (between (whole (pos 0)) (whole (pos 4))) (between (whole (negsuc 0)) (whole (pos 1))) ⊆ between (whole (negsuc 3)) (whole (pos 4))
 unfolding product least greatest smaller larger times is_at_most
-twice = record { ends = (record { cross = omega (arith, ints) }, record { cross = omega (arith, ints) }) }
+twice = record { endpoints = (record { cross = omega (arith, ints) }, record { cross = omega (arith, ints) }) }
 
 -- a cosine times the factor, as often as a row of the table has it
 power_between : (w : World) (e x : Expression) (k : ℕ) → k ≤ 2 → IsFactor w e → IsBetween (negsuc 0) (pos 1) (value w x)
@@ -151,7 +151,7 @@ greatest_term = pos 84000000
 sized : product (between (whole (negsuc 3)) (whole (pos 4))) (between (whole (neg_ℤ (pos 21000000))) (whole (pos 21000000)))
     ⊆ between (whole least_term) (whole greatest_term)
 unfolding product least greatest smaller larger times is_at_most
-sized = record { ends = (record { cross = omega (arith, ints) }, record { cross = omega (arith, ints) }) }
+sized = record { endpoints = (record { cross = omega (arith, ints) }, record { cross = omega (arith, ints) }) }
 
 term_between : (w : World) (a : LunarAngles) (t : MoonTerm) → IsFactor w a.eccentricity → is_small_term t ≡ true
     → IsBetween least_term greatest_term (value w (distance_term_of a t))
@@ -190,7 +190,7 @@ mean_between w = (record { cross = omega (arith, ints) }, record { cross = omega
 in_kilometres : product (between (whole (neg_ℤ (pos 5040000000))) (whole (pos 5440000000))) (exactly metre) ⊆ between (whole (neg_ℤ (pos 5040000)))
     (whole (pos 5440000))
 unfolding product least greatest smaller larger times is_at_most
-in_kilometres = record { ends = (record { cross = omega (arith, ints) }, record { cross = omega (arith, ints) }) }
+in_kilometres = record { endpoints = (record { cross = omega (arith, ints) }, record { cross = omega (arith, ints) }) }
 
 by_between : (w : World) (a : LunarAngles) → IsFactor w a.eccentricity
     → IsBetween (neg_ℤ (pos 5040000)) (pos 5440000) (value w (distance_by a))
@@ -207,7 +207,7 @@ angles_between w c h = factor_between w c h
 hundred_years : product (between (whole (TABLE_START -ℤ pos 730321)) (whole (TABLE_END -ℤ pos 729920))) (exactly (fraction_of DAY_IN_CENTURIES))
     ⊆ between (whole (negsuc 25)) (whole (pos 2))
 unfolding product least greatest smaller larger times is_at_most
-hundred_years = record { ends = (record { cross = omega (arith, ints) }, record { cross = omega (arith, ints) }) }
+hundred_years = record { endpoints = (record { cross = omega (arith, ints) }, record { cross = omega (arith, ints) }) }
 
 noon_between : (w : World) → IsBetween (pos 730120) (pos 730121) (value w (constant (fraction_of NOON_2000)))
 unfolding value

@@ -18,7 +18,7 @@ use Rattle.book_model.proofs.Estimates.{floor_between}
 use Rattle.book_model.proofs.FactRuns.{decides}
 use Rattle.book_model.proofs.Leads.{at_most_bind, at_most_more, leads_leaf, leads_value}
 use Rattle.book_model.proofs.Values.{value_proper}
-use Rattle.crescent.proofs.Crescents.{sight_from_few}
+use Rattle.crescent.proofs.Crescents.{visibility_from_few}
 use Rattle.crescent.proofs.Horizons.{settled_few}
 use Rattle.moon_core.proofs.EarlyTests.{short_least}
 use Rattle.fact_eval.specs.Nisan.{next_equinox_of, IsEquinoxDay}
@@ -38,7 +38,7 @@ unfolding nisan_of nisan_by_of
 nisan_few p d = at_most_more (324 + (1 + (133 + (845 + (151 + 46 * 151))))) 99999 (omega arith)
     (at_most_bind 324 (1 + (133 + (845 + (151 + 46 * 151)))) (from_few _ _)
     (λ x. at_most_bind 1 (133 + (845 + (151 + 46 * 151))) (cell_at_most (λ q. answer_at_most))
-    (λ f. at_most_bind 133 (845 + (151 + 46 * 151)) (before_few p x f) (λ before. sight_from_few p (nisan_start f before)))))
+    (λ f. at_most_bind 133 (845 + (151 + 46 * 151)) (before_few p x f) (λ before. visibility_from_few p (nisan_start f before)))))
 
 -- ---- the day of the equinox
 pub equinox_near : {E : Type 0} {shown : E → Interval} (w : World) (d : ℤ) {a b e : ℕ} {y : E} (r : Result ℤ Fail) →

@@ -25,7 +25,7 @@ use Rattle.moon_core.proofs.NewYears.{french_year_few, nowruz_few}
 use Rattle.moon_core.proofs.PhaseDays.{phase_day_few}
 use Rattle.moon_rise.proofs.Risings.{moonrise_few, moonset_few}
 use Rattle.crescent.proofs.Horizons.{bahai_year_few, sunset_in_minutes_few}
-use Rattle.hindu_facts.proofs.HinduRuns.{sign_at_sunset_few, year_at_sunset_few, sankranti_few, tithi_few, sign_before_few, sign_after_few, calendar_year_few}
+use Rattle.hindu_sky.proofs.HinduRuns.{sign_at_sunset_few, year_at_sunset_few, sankranti_few, tithi_few, sign_before_few, sign_after_few, calendar_year_few}
 use Rattle.crescent.proofs.Crescents.{phasis_few}
 use Rattle.fact_eval.proofs.MoonFacts.{new_moon_before_few, new_moon_from_few}
 use Rattle.fact_eval.proofs.Solstices.{solstice_few, major_few}

@@ -16,7 +16,7 @@ use Rattle.book_model.specs.declared.site.Site.TheVariants.{Year, Zone, SunWrap,
 use Rattle.book_model.specs.numbers.Expressions.{World, value}
 use Rattle.book_model.specs.sky.Facts.{LiesFrom, HasThreshold, AreNear, near_cell, near_comparison}
 use Rattle.book_model.specs.programs.Widths.{most_apart}
-use Rattle.book_model.specs.programs.Leading.{units_of_56, AreNoBounds, AreEnds, bounds, no_bounds, IsOpenCell, between_cells, too_far, IsOpen, open_cell, open_comparison}
+use Rattle.book_model.specs.programs.Leading.{units_of_56, AreNoBounds, AreEndpoints, bounds, no_bounds, IsUndecidedCell, between_cells, too_far, IsOpen, open_cell, undecided_comparison}
 use Rattle.book_model.specs.programs.Programs.{Grid, integers, multiples, years, cell_of, threshold, when, cell_at, Program, answer, void, cell, compare, Sides, one_side, two_sides, Run, after_cell, after_compare, run, compare_at, MakesTest, here_decided, here_undecided, later}
 use Rattle.book_model.proofs.Calendars.{first_day_rises}
 use Rattle.book_model.proofs.Cells.{cells_cut}
@@ -92,9 +92,9 @@ far_apart : (lo hi : ℤ) (m : ℕ) → m ≤ 2 ^ 44 → ((hi -ℤ lo) *ℤ pos 
 far_apart lo hi m s h n = omega (arith, ints, n.least, n.greatest)
 
 -- ---- sides
-within_ends : (i : Interval) (a b : Fraction) (lo hi : ℤ) → i ⊆ between a b → units_of_56 lo ≈ a → units_of_56 hi ≈ b
+within_endpoints : (i : Interval) (a b : Fraction) (lo hi : ℤ) → i ⊆ between a b → units_of_56 lo ≈ a → units_of_56 hi ≈ b
     → i ⊆ between (units_of_56 lo) (units_of_56 hi)
-within_ends i a b lo hi h l r = within_trans h (record { ends = (le_of_same l, ge_of_same r) })
+within_endpoints i a b lo hi h l r = within_trans h (record { endpoints = (le_of_same l, ge_of_same r) })
 
 proper_outside : (i : Interval) (a b : Fraction) → IsProper i → AreWithin i (between a b) → a ≤F b
 proper_outside everything a b p h = absurd h
@@ -104,27 +104,27 @@ proper_outside (between c d) a b p h = le_trans _ _ _ h.0 (le_trans _ _ _ p h.1)
 abbrev pub AreNearBy : ℕ → (lo hi : ℤ) → Type 0
 AreNearBy m lo hi = (m ≤ 2 ^ 44) × (((hi -ℤ lo) *ℤ pos 256) ≤ℤ pos m)
 
-lies_from : (i j : Interval) (lo hi : ℤ) {m : ℕ} → AreNearBy m lo hi → i ⊆ j → AreEnds lo hi j → LiesFrom lo hi i
-lies_from i j lo hi c h (bounds {a = a} {b = b} l r) = within_ends i a b lo hi h l r
+lies_from : (i j : Interval) (lo hi : ℤ) {m : ℕ} → AreNearBy m lo hi → i ⊆ j → AreEndpoints lo hi j → LiesFrom lo hi i
+lies_from i j lo hi c h (bounds {a = a} {b = b} l r) = within_endpoints i a b lo hi h l r
 lies_from i j lo hi c h (no_bounds n) = absurd (far_apart lo hi _ c.0 c.1 n)
 
-near_open_cell : (g : Grid) (i j : Interval) (lo hi : ℤ) {m : ℕ} → AreNearBy m lo hi → IsProper i → i ⊆ j → IsOpenCell g j lo hi → AreNear lo hi (one_side g i)
-near_open_cell g i j lo hi c p h (too_far q e z n) = absurd (far_apart lo hi _ c.0 c.1 n)
-near_open_cell g i j lo hi c p h (between_cells e (no_bounds n)) = absurd (far_apart lo hi _ c.0 c.1 n)
-near_open_cell g i j lo hi c p h (between_cells e (bounds {a = a} {b = b} l r)) =
-    near_cell (within_ends i a b lo hi h l r) (threshold_between g a b lo hi (proper_outside i a b p h.ends) e l r)
+near_undecided_cell : (g : Grid) (i j : Interval) (lo hi : ℤ) {m : ℕ} → AreNearBy m lo hi → IsProper i → i ⊆ j → IsUndecidedCell g j lo hi → AreNear lo hi (one_side g i)
+near_undecided_cell g i j lo hi c p h (too_far q e z n) = absurd (far_apart lo hi _ c.0 c.1 n)
+near_undecided_cell g i j lo hi c p h (between_cells e (no_bounds n)) = absurd (far_apart lo hi _ c.0 c.1 n)
+near_undecided_cell g i j lo hi c p h (between_cells e (bounds {a = a} {b = b} l r)) =
+    near_cell (within_endpoints i a b lo hi h l r) (threshold_between g a b lo hi (proper_outside i a b p h.endpoints) e l r)
 
 hull_holds_first : (i j : Interval) → i ⊆ hull i j
 unfolding hull
 hull_holds_first everything j = within_everything _
 hull_holds_first (between a b) everything = within_everything _
-hull_holds_first (between a b) (between c d) = record { ends = (smaller_first a c, larger_first b d) }
+hull_holds_first (between a b) (between c d) = record { endpoints = (smaller_first a c, larger_first b d) }
 
 hull_holds_second : (i j : Interval) → j ⊆ hull i j
 unfolding hull
 hull_holds_second everything j = within_everything _
 hull_holds_second (between a b) everything = within_everything _
-hull_holds_second (between a b) (between c d) = record { ends = (smaller_second a c, larger_second b d) }
+hull_holds_second (between a b) (between c d) = record { endpoints = (smaller_second a c, larger_second b d) }
 
 -- no test may be left undecided over bounds further apart than a 2^20th
 pub site_allows : (s : Site) → most_apart s ≤ 2 ^ 44
@@ -153,7 +153,7 @@ site_allows Rise = omega arith
 
 -- the sides of an undecided test whose bounds are close are near
 pub near_open : (lo hi : ℤ) (s : Sides) {m : ℕ} → AreNearBy m lo hi → AreProper s → IsOpen s lo hi → AreNear lo hi s
-near_open lo hi (one_side g i) c p (open_cell j h k) = near_open_cell g i j lo hi c p h k
-near_open lo hi (two_sides i j) c p (open_comparison k l h m o) =
-    near_comparison (lies_from i (hull k l) lo hi c (within_trans h (hull_holds_first k l)) o.ends)
-    (lies_from j (hull k l) lo hi c (within_trans m (hull_holds_second k l)) o.ends)
+near_open lo hi (one_side g i) c p (open_cell j h k) = near_undecided_cell g i j lo hi c p h k
+near_open lo hi (two_sides i j) c p (undecided_comparison k l h m o) =
+    near_comparison (lies_from i (hull k l) lo hi c (within_trans h (hull_holds_first k l)) o.endpoints)
+    (lies_from j (hull k l) lo hi c (within_trans m (hull_holds_second k l)) o.endpoints)

@@ -62,7 +62,7 @@ day_few place x = at_most_bind 1000 1 (at_most_bind 1000 0 (zone_few place x) (�
 -- ---- how far a time is ahead
 day_of_hours : product (between (whole (pos 0)) (whole (pos 24))) (exactly (fraction_of HOUR)) ⊆ between (whole (pos 0)) (whole (pos 1))
 unfolding product least greatest smaller larger times is_at_most
-day_of_hours = record { ends = (record { cross = omega (arith, ints) }, record { cross = omega (arith, ints) }) }
+day_of_hours = record { endpoints = (record { cross = omega (arith, ints) }, record { cross = omega (arith, ints) }) }
 
 -- hours of a place are less than a day
 pub hours_between : (w : World) (h : Frac) → are_kept_hours 24 h ≡ true

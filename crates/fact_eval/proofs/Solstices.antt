@@ -36,7 +36,7 @@ major_few place d = at_most_more 3 99999 (omega arith) (at_most_bind 3 0 (passed
 -- ---- the major solar terms
 twelve_terms : product (between (whole (pos 0)) (whole (pos 360))) (exactly (fraction_of DEGREE_IN_TERMS)) ⊆ between (whole (pos 0)) (whole (pos 12))
 unfolding product least greatest smaller larger times is_at_most
-twelve_terms = record { ends = (record { cross = omega (arith, ints) }, record { cross = omega (arith, ints) }) }
+twelve_terms = record { endpoints = (record { cross = omega (arith, ints) }, record { cross = omega (arith, ints) }) }
 
 -- the sun has passed at most twelve spans of 30 degrees
 pub record IsTerm (q : ℤ) : Type 0 where

@@ -80,7 +80,7 @@ half_arcs n (between a b) p = inside_bounded n _ (tangent_proper n (clamp (betwe
 
 twice_quarters : product quarters (only (whole (pos 2))) ⊆ between (whole (negsuc 179)) (whole (pos 180))
 unfolding product least greatest smaller larger times is_at_most
-twice_quarters = record { ends = (record { cross = omega (arith, ints) }, record { cross = omega (arith, ints) }) }
+twice_quarters = record { endpoints = (record { cross = omega (arith, ints) }, record { cross = omega (arith, ints) }) }
 
 arcsine_inside : (n : ℕ) (i : Interval) → IsProper i → arcsine_of n i ⊆ between (whole (negsuc 179)) (whole (pos 180))
 unfolding arcsine_of
@@ -91,7 +91,7 @@ arcsine_inside n i p =
 -- ---- one approximation
 half_days : product (between (whole (negsuc 179)) (whole (pos 180))) (exactly (fraction_of DEGREE_IN_DAYS)) ⊆ between (whole (negsuc 0)) (whole (pos 1))
 unfolding product least greatest smaller larger times is_at_most
-half_days = record { ends = (record { cross = omega (arith, ints) }, record { cross = omega (arith, ints) }) }
+half_days = record { endpoints = (record { cross = omega (arith, ints) }, record { cross = omega (arith, ints) }) }
 
 part_between : (w : World) (s : Expression) → IsBetween (negsuc 0) (pos 1) (value w (part_of s))
 unfolding value
@@ -157,7 +157,7 @@ IsEast p = is_up_to 360 p.longitude ≡ true
 
 turn_of_day : product (between (whole (pos 0)) (whole (pos 360))) (exactly (fraction_of DEGREE_IN_DAYS)) ⊆ between (whole (pos 0)) (whole (pos 1))
 unfolding product least greatest smaller larger times is_at_most
-turn_of_day = record { ends = (record { cross = omega (arith, ints) }, record { cross = omega (arith, ints) }) }
+turn_of_day = record { endpoints = (record { cross = omega (arith, ints) }, record { cross = omega (arith, ints) }) }
 
 ahead_between : (w : World) (p : Location) → IsEast p → IsBetween (pos 0) (pos 1) (value w (ahead_of (fraction_of p.longitude)))
 unfolding ahead_of value
@@ -187,7 +187,7 @@ sunset_between w p d y e h =
 minutes_of_days : product (between (whole (negsuc 39)) (whole (pos 40))) (exactly (fraction_of MINUTES_OF_DAY)) ⊆ between (whole (negsuc 57599))
     (whole (pos 57600))
 unfolding product least greatest smaller larger times is_at_most
-minutes_of_days = record { ends = (record { cross = omega (arith, ints) }, record { cross = omega (arith, ints) }) }
+minutes_of_days = record { endpoints = (record { cross = omega (arith, ints) }, record { cross = omega (arith, ints) }) }
 
 no_minutes : IsBetween (negsuc 57599) (pos 57600) (product everything (exactly (fraction_of MINUTES_OF_DAY)))
 unfolding product
@@ -197,7 +197,7 @@ minutes_between : (i : Interval) → IsProper i → IsBetween (negsuc 39) (pos 4
     → IsBetween (negsuc 57599) (pos 57600) (product i (exactly (fraction_of MINUTES_OF_DAY)))
 minutes_between everything p h = no_minutes
 minutes_between (between a b) p h = between_of_within (negsuc 57599) (pos 57600) _
-    (within_trans (product_within p (le_refl (fraction_of MINUTES_OF_DAY)) (record { ends = h }) (within_refl _)) minutes_of_days)
+    (within_trans (product_within p (le_refl (fraction_of MINUTES_OF_DAY)) (record { endpoints = h }) (within_refl _)) minutes_of_days)
 
 half_between : (w : World) → IsBetween (pos 0) (pos 1) (value w (constant (fraction_of HALF)))
 unfolding value

@@ -66,14 +66,14 @@ latest = TABLE_END +ℤ pos 451
 halves : AreHalved earliest latest (earliest +ℤ earliest) (latest +ℤ latest)
 unfolding product least greatest smaller larger times is_at_most
 halves = record {
-  halved = record { ends = (record { cross = omega (arith, ints) }, record { cross = omega (arith, ints) }) };
+  halved = record { endpoints = (record { cross = omega (arith, ints) }, record { cross = omega (arith, ints) }) };
   low = omega (arith, ints);
   high = omega (arith, ints);
 }
 
 days_of_turn : product (between (whole (pos 0)) (whole (pos 360))) (exactly (fraction_of DEGREE_OF_YEAR)) ⊆ between (whole (pos 0)) (whole (pos 366))
 unfolding product least greatest smaller larger times is_at_most
-days_of_turn = record { ends = (record { cross = omega (arith, ints) }, record { cross = omega (arith, ints) }) }
+days_of_turn = record { endpoints = (record { cross = omega (arith, ints) }, record { cross = omega (arith, ints) }) }
 
 short_between : (w : World) (l x p : Expression) → outcome (run w (sun_short_of l x)) ≡ valued p → IsBetween (pos 0) (pos 360) (value w p)
 unfolding sun_short_of
@@ -132,7 +132,7 @@ term_day_is_value place r d (Err f) b a h = tt
 -- ---- the spans to a longitude
 twelve_spans : product (between (whole (negsuc 359)) (whole (pos 360))) (exactly (fraction_of DEGREE_IN_TERMS)) ⊆ between (whole (negsuc 11)) (whole (pos 12))
 unfolding product least greatest smaller larger times is_at_most
-twelve_spans = record { ends = (record { cross = omega (arith, ints) }, record { cross = omega (arith, ints) }) }
+twelve_spans = record { endpoints = (record { cross = omega (arith, ints) }, record { cross = omega (arith, ints) }) }
 
 short_span : (w : World) (r : ℤ) (s : Expression) → pos 0 ≤ℤ r → r ≤ℤ pos 15 → value w s ⊆ between (whole (pos 0)) (whole (pos 360))
     → IsBetween (negsuc 359) (pos 360) (value w (subtract (integer r) s))

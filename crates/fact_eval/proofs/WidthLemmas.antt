@@ -15,10 +15,10 @@ use Rattle.book_model.proofs.Same.{le_of_same, ge_of_same}
 use Rattle.book_model.specs.declared.fail.Fail.{Fail}
 use Rattle.book_model.specs.declared.fail.Fail.TheVariants.{Undecided as undecided_at, Void}
 use Rattle.book_model.specs.declared.site.Site.TheVariants.{Round, Year}
-use Rattle.encl_core.specs.Steps.{IsOpenFloor}
+use Rattle.encl_core.specs.Steps.{IsUndecidedFloor}
 use Rattle.book_model.specs.numbers.Bounds.{Bound, bounded, Reach, IsNarrow, breadth, at_32, bound_of, implies, constant_bound, sum_bound, scaled_bound, limits_of}
 use Rattle.book_model.specs.sky.Facts.{IsFactValue}
-use Rattle.book_model.specs.programs.Leading.{units_of_56, bounds, IsOpenCell, between_cells, too_far}
+use Rattle.book_model.specs.programs.Leading.{units_of_56, bounds, IsUndecidedCell, between_cells, too_far}
 use Rattle.book_model.specs.programs.Programs.{integers, cell_at, cell_of, when}
 use Rattle.book_model.specs.numbers.Expressions.{Expression, argument}
 use Rattle.book_model.specs.numbers.Relations.{Narrow, Keeps}
@@ -135,25 +135,25 @@ nothing_narrow : (m : ℕ) → IsNarrow 0 (rounded_within m) everything → ⊥
 unfolding IsNarrow
 nothing_narrow m h = h
 
-close_ends : (m : ℕ) (a b : Fraction) (lo hi : ℤ) → units_of_56 lo ≈ a → units_of_56 hi ≈ b → IsNarrow 0 (rounded_within m) (between a b)
+close_endpoints : (m : ℕ) (a b : Fraction) (lo hi : ℤ) → units_of_56 lo ≈ a → units_of_56 hi ≈ b → IsNarrow 0 (rounded_within m) (between a b)
     → units_of_56 hi ≤F plus (units_of_56 lo) (breadth 0 0 m)
 unfolding IsNarrow
-close_ends m a b lo hi l r h = le_trans _ _ _ (le_of_same r) (le_trans _ _ _ h.close (plus_mono _ _ _ _ (ge_of_same l) (le_refl _)))
+close_endpoints m a b lo hi l r h = le_trans _ _ _ (le_of_same r) (le_trans _ _ _ h.close (plus_mono _ _ _ _ (ge_of_same l) (le_refl _)))
 
 -- the bounds of an undecided floor of what keeps the bound are no further apart than it is wide
-open_floor_close : (m : ℕ) (i : Interval) (lo hi : ℤ) → IsNarrow 0 (rounded_within m) i → IsOpenCell integers i lo hi → ((hi -ℤ lo) *ℤ pos 256) ≤ℤ pos m
+open_floor_close : (m : ℕ) (i : Interval) (lo hi : ℤ) → IsNarrow 0 (rounded_within m) i → IsUndecidedCell integers i lo hi → ((hi -ℤ lo) *ℤ pos 256) ≤ℤ pos m
 open_floor_close m i lo hi h (too_far q e f b) = absurd (f (value_fits q (floor_is_value m i q h e)))
 open_floor_close m everything lo hi h (between_cells e k) = absurd (nothing_narrow m h)
-open_floor_close m (between a b) lo hi h (between_cells e (bounds l r)) = apart_at_most m lo hi (close_ends m a b lo hi l r h)
+open_floor_close m (between a b) lo hi h (between_cells e (bounds l r)) = apart_at_most m lo hi (close_endpoints m a b lo hi l r h)
 
-close_by : (n : ℕ) (i : Interval) (o : Option ℕ) (f : Fail) → IfSome o (λ u. IsNarrow 0 (rounded_bound u n) i) → IsOpenFloor i Round f
+close_by : (n : ℕ) (i : Interval) (o : Option ℕ) (f : Fail) → IfSome o (λ u. IsNarrow 0 (rounded_bound u n) i) → IsUndecidedFloor i Round f
     → IfSome o (λ u. AreCloseBy n u f)
 close_by n i None f h o = tt
 close_by n i (Some u) (undecided_at x) h o = open_floor_close (apart_by u n) i x.lo x.hi h o.0
 close_by n i (Some u) (Void s) h o = tt
 
 -- an undecided floor of what keeps the bound that the table promises lies within its units
-pub close_round : (n : ℕ) (i : Interval) (y : ℤ) (f : Fail) → IfSome (units_of_year y) (λ u. IsNarrow 0 (rounded_bound u n) i) → IsOpenFloor i Round f
+pub close_round : (n : ℕ) (i : Interval) (y : ℤ) (f : Fail) → IfSome (units_of_year y) (λ u. IsNarrow 0 (rounded_bound u n) i) → IsUndecidedFloor i Round f
     → IsCloseFor n y f
 close_round n i y f h o = close_by n i (units_of_year y) f h o
 

@@ -2,7 +2,7 @@
 use Rattle.std.specs.Prelude.{◌^◌, ℤ, pos, ◌-ℤ◌, ◌≤ℤ◌, Result, Ok, Err}
 use Rattle.book_model.specs.declared.fail.Fail.{Fail}
 use Rattle.book_model.specs.declared.fail.Fail.TheVariants.{Undecided as undecided_at, Void as void_at}
-use Rattle.book_model.specs.declared.fail.Undecided.{Undecided as OpenTest}
+use Rattle.book_model.specs.declared.fail.Undecided.{Undecided as UndecidedTest}
 use Rattle.book_model.specs.sky.Facts.{AreClose}
 use Rattle.oracle_core.specs.declared.evaluator.Answer.{Answer}
 use Rattle.oracle_core.specs.declared.evaluator.Answer.TheVariants.{Value, Undecided, Void}
@@ -20,7 +20,7 @@ IsCloseAnswer (Undecided u) = AreClose u
 IsCloseAnswer (Void s) = Unit {0}
 
 -- the bounds of an undecided test are at most a 2^24th apart, as every site allows
-abbrev pub AreCloseAnywhere : OpenTest → Type 0
+abbrev pub AreCloseAnywhere : UndecidedTest → Type 0
 AreCloseAnywhere u = (u.hi -ℤ u.lo) ≤ℤ pos (2 ^ 32)
 
 -- an answer is no undecided test, or one whose bounds are close at every site

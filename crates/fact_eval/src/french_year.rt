@@ -10,7 +10,7 @@ use crate::seasons::{DayMoment, season_day};
 use book_model::Fail;
 use book_model::calendar_tables::AUTUMN;
 use encl_core::{Enclosure, Trail};
-use moon_core::{SunCourse, paris_midnight};
+use moon_core::{SunLinearModel, paris_midnight};
 
 /// Midnight at the end of a day by apparent time at Paris.
 #[derive(Drop)]
@@ -28,7 +28,7 @@ impl<E: Enclosure> DayMoment<E> for MidnightAtParis {
 /// The first day (R.D.) of the French year in which a day falls, by apparent midnight at Paris. It is void at `search` where there is
 /// none.
 pub(crate) fn french_year<E: Enclosure>(
-    course: &SunCourse<E>,
+    linear_model: &SunLinearModel<E>,
     day: i64,
     trail: &mut Trail,
 ) -> Result<i64, Fail>
@@ -37,5 +37,5 @@ pub(crate) fn french_year<E: Enclosure>(
     ensures value { IfOk result IsFactValue }
     ensures close { E.BITS ≡ 56 → IfErr result IsClose }
 {
-    season_day::<E, MidnightAtParis>(MidnightAtParis, course, AUTUMN, day, trail)
+    season_day::<E, MidnightAtParis>(MidnightAtParis, linear_model, AUTUMN, day, trail)
 }

@@ -8,14 +8,14 @@ ghost use Rattle.book_model.specs.sky.Kinds.{new_moon_before_of, new_moon_from_o
 use crate::midnights::day_at;
 use book_model::{Fail, Place};
 use encl_core::{Enclosure, Trail};
-use moon_core::{PhaseCourse, moon_before_by, moon_from_by};
+use moon_core::{PhaseLinearModel, moon_before_by, moon_from_by};
 use time_scales::midnight;
 
 /// The day (R.D.) at a place of the last new moon before midnight at the beginning of a day there: 26 tests at most, and those of
 /// the zone (`new_moon_before_few`).
 #[tactic(auto, using(book_model::proofs::Leads::leading), unfolding(book_model::specs::sky::Kinds::new_moon_before_of))]
 pub(crate) fn new_moon_before<E: Enclosure>(
-    course: &PhaseCourse<E>,
+    linear_model: &PhaseLinearModel<E>,
     place: Place,
     day: i64,
     trail: &mut Trail,
@@ -26,7 +26,7 @@ pub(crate) fn new_moon_before<E: Enclosure>(
     ensures value { IfOk result IsFactValue }
     ensures close { E.BITS ≡ 56 → IfErr result IsClose }
 {
-    let moment = moon_before_by(course, midnight::<E>(place, day), trail)?;
+    let moment = moon_before_by(linear_model, midnight::<E>(place, day), trail)?;
     day_at(place, moment, trail)
 }
 
@@ -34,7 +34,7 @@ pub(crate) fn new_moon_before<E: Enclosure>(
 /// those of the zone (`new_moon_from_few`).
 #[tactic(auto, using(book_model::proofs::Leads::leading), unfolding(book_model::specs::sky::Kinds::new_moon_from_of))]
 pub(crate) fn new_moon_from<E: Enclosure>(
-    course: &PhaseCourse<E>,
+    linear_model: &PhaseLinearModel<E>,
     place: Place,
     day: i64,
     trail: &mut Trail,
@@ -45,6 +45,6 @@ pub(crate) fn new_moon_from<E: Enclosure>(
     ensures value { IfOk result IsFactValue }
     ensures close { E.BITS ≡ 56 → IfErr result IsClose }
 {
-    let moment = moon_from_by(course, midnight::<E>(place, day), trail)?;
+    let moment = moon_from_by(linear_model, midnight::<E>(place, day), trail)?;
     day_at(place, moment, trail)
 }

@@ -11,22 +11,31 @@ ghost use Rattle.crescent.specs.SkyWidths.{IsNarrowLocation};
 ghost use Rattle.time_scales.specs.Steps.{IsNoEarlyYear};
 
 use book_model::{Fail, Location, Place, Site};
-use crescent::{sight_from_by, sunset};
+use crescent::{sunset, visibility_from_by};
 use encl_core::{Enclosure, Trail, floor_step, less_step};
-use moon_core::{PhaseCourse, SunCourse, sun_from_by};
+use moon_core::{PhaseLinearModel, SunLinearModel, sun_from_by};
 
 /// The longitude of the sun at the spring equinox, in degrees.
 const SPRING_EQUINOX: i64 = 0;
 
 /// The moment of the spring equinox that is next from a day (R.D.) on, in universal time: 324 tests at most (`from_few`).
 #[tactic(auto, using(book_model::proofs::Leads::leading), unfolding(crate::specs::Nisan::next_equinox_of))]
-fn next_equinox<E: Enclosure>(course: &SunCourse<E>, day: i64, trail: &mut Trail) -> Result<E, Fail>
+fn next_equinox<E: Enclosure>(
+    linear_model: &SunLinearModel<E>,
+    day: i64,
+    trail: &mut Trail,
+) -> Result<E, Fail>
     requires day { IsValueDay day }
     ensures leads { Follows E.shown (next_equinox_of day) trail.old.count trail.new.count result }
     ensures measured { Measured E.BITS E.shown (IsMoment (2 ^ 33)) result }
     ensures early { trail.old.count ≡ 0 → 36 ≤ E.BITS → E.BITS ≤ 56 → IfErr result IsNoEarlyYear }
 {
-    sun_from_by(course, E::from_int(SPRING_EQUINOX), E::from_int(day), trail)
+    sun_from_by(
+        linear_model,
+        E::from_int(SPRING_EQUINOX),
+        E::from_int(day),
+        trail,
+    )
 }
 
 /// Whether a moment comes before sunset on a day (R.D.) at a location: 133 tests at most.
@@ -64,7 +73,7 @@ fn start(equinox: i64, is_before: bool) -> i64
 /// The first day (R.D.) of Nisan at a location, by the moment of the equinox and its day: 8,075 tests at most.
 #[tactic(auto, using(book_model::proofs::Leads::leading), unfolding(crate::specs::Nisan::nisan_on_of))]
 fn nisan_on<E: Enclosure>(
-    course: &PhaseCourse<E>,
+    linear_model: &PhaseLinearModel<E>,
     location: &Location,
     t: E,
     equinox: i64,
@@ -78,14 +87,14 @@ fn nisan_on<E: Enclosure>(
         → IfErr result IsClose }
 {
     let is_before = is_before_sunset(location, t, equinox, trail)?;
-    sight_from_by(course, location, start(equinox, is_before), trail)
+    visibility_from_by(linear_model, location, start(equinox, is_before), trail)
 }
 
 /// The first day (R.D.) of Nisan at a location about the spring equinox that is next from a day on: 8,400 tests at most
 /// (`nisan_few`).
 #[tactic(auto, using(book_model::proofs::Leads::leading), unfolding(book_model::specs::sky::Nisan::nisan_of, book_model::specs::sky::Nisan::nisan_by_of, crate::specs::Nisan::next_equinox_of, crate::specs::Nisan::nisan_on_of))]
 fn nisan_at<E: Enclosure>(
-    course: &PhaseCourse<E>,
+    linear_model: &PhaseLinearModel<E>,
     location: &Location,
     day: i64,
     trail: &mut Trail,
@@ -96,9 +105,9 @@ fn nisan_at<E: Enclosure>(
     ensures early { trail.old.count ≡ 0 → 36 ≤ E.BITS → E.BITS ≤ 56 → IfErr result IsNoEarlyYear }
     ensures close { E.BITS ≡ 56 → IsNarrowLocation location.now → IfErr result IsClose }
 {
-    let t = next_equinox(course.sun(), day, trail)?;
+    let t = next_equinox(linear_model.sun(), day, trail)?;
     let equinox = floor_step(t, Site::DayFloor, trail)?;
-    nisan_on(course, location, t, equinox, trail)
+    nisan_on(linear_model, location, t, equinox, trail)
 }
 
 /// The first day (R.D.) of Nisan at a place about the spring equinox that is next from a day on: the month about the equinox, by when
@@ -107,7 +116,7 @@ fn nisan_at<E: Enclosure>(
 /// one of the formulas is. Its first and third tests, of the year of the day itself, are never undecided.
 #[tactic(auto, using(book_model::proofs::Leads::leading), unfolding(book_model::specs::sky::Kinds::located))]
 pub(crate) fn nisan<E: Enclosure>(
-    course: &PhaseCourse<E>,
+    linear_model: &PhaseLinearModel<E>,
     place: Place,
     day: i64,
     trail: &mut Trail,
@@ -120,7 +129,7 @@ pub(crate) fn nisan<E: Enclosure>(
     ensures close { E.BITS ≡ 56 → IfErr result IsClose }
 {
     match place.location() {
-        Some(location) => nisan_at::<E>(course, &location, day, trail),
+        Some(location) => nisan_at::<E>(linear_model, &location, day, trail),
         None => Err(Fail::Void(Site::Year)),
     }
 }

@@ -10,7 +10,7 @@ use crate::seasons::{DayMoment, season_day};
 use book_model::Fail;
 use book_model::calendar_tables::SPRING;
 use encl_core::{Enclosure, Trail};
-use moon_core::{SunCourse, noon};
+use moon_core::{SunLinearModel, noon};
 
 /// True noon of a day at Tehran.
 #[derive(Drop)]
@@ -28,7 +28,7 @@ impl<E: Enclosure> DayMoment<E> for NoonAtTehran {
 /// The first day (R.D.) of the Persian year in which a day falls, by true noon at Tehran. It is void at `search` where there is
 /// none.
 pub(crate) fn nowruz<E: Enclosure>(
-    course: &SunCourse<E>,
+    linear_model: &SunLinearModel<E>,
     day: i64,
     trail: &mut Trail,
 ) -> Result<i64, Fail>
@@ -37,5 +37,5 @@ pub(crate) fn nowruz<E: Enclosure>(
     ensures value { IfOk result IsFactValue }
     ensures close { E.BITS ≡ 56 → IfErr result IsClose }
 {
-    season_day::<E, NoonAtTehran>(NoonAtTehran, course, SPRING, day, trail)
+    season_day::<E, NoonAtTehran>(NoonAtTehran, linear_model, SPRING, day, trail)
 }

@@ -11,13 +11,13 @@ ghost use Rattle.time_scales.specs.Steps.{IsNoEarlyYear};
 
 use book_model::{Fail, Place, Site};
 use encl_core::{Enclosure, Trail};
-use moon_core::PhaseCourse;
+use moon_core::PhaseLinearModel;
 
 /// The day (R.D.) in universal time on which the moon was last at a phase, in degrees, before a day begins or as it begins: 845
 /// tests at most (`phase_day_few_exactly`).
 #[tactic(auto, using(crate::proofs::Rightness::phase_day_is_value))]
 pub(crate) fn phase_day<E: Enclosure>(
-    course: &PhaseCourse<E>,
+    linear_model: &PhaseLinearModel<E>,
     phase: i64,
     day: i64,
     trail: &mut Trail,
@@ -28,7 +28,7 @@ pub(crate) fn phase_day<E: Enclosure>(
     ensures early { trail.old.count ≡ 0 → 36 ≤ E.BITS → E.BITS ≤ 56 → IfErr result IsNoEarlyYear }
     ensures close { E.BITS ≡ 56 → IsSmall phase → IfErr result IsClose }
 {
-    moon_core::phase_day::<E>(course, phase, day, trail)
+    moon_core::phase_day::<E>(linear_model, phase, day, trail)
 }
 
 // Void where the place has no location: total, the same in the definition, and met by no fact.
@@ -36,7 +36,7 @@ pub(crate) fn phase_day<E: Enclosure>(
 /// tests at most (`phasis_few`). It is void at `year` where the place has no location.
 #[tactic(auto, using(book_model::proofs::Leads::leading), unfolding(book_model::specs::sky::Kinds::located))]
 pub(crate) fn phasis<E: Enclosure>(
-    course: &PhaseCourse<E>,
+    linear_model: &PhaseLinearModel<E>,
     place: Place,
     day: i64,
     trail: &mut Trail,
@@ -49,7 +49,7 @@ pub(crate) fn phasis<E: Enclosure>(
     ensures close { E.BITS ≡ 56 → IfErr result IsClose }
 {
     match place.location() {
-        Some(location) => crescent::phasis_by::<E>(course, &location, day, trail),
+        Some(location) => crescent::phasis_by::<E>(linear_model, &location, day, trail),
         None => Err(Fail::Void(Site::Year)),
     }
 }

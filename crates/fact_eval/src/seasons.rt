@@ -14,7 +14,7 @@ ghost use Rattle.fact_eval.specs.Widths.{IsSmallSeason, IsSmallSide};
 
 use book_model::{Fail, Season, Side, Site};
 use encl_core::{DayTest, Enclosure, Trail, first_day, floor_step, less_step};
-use moon_core::{SunCourse, estimate, sun, sun_by};
+use moon_core::{SunLinearModel, estimate, sun, sun_by};
 
 // So that the search is one for true noon, sunset and midnight, as in the definitions
 // (`season_day_of`).
@@ -36,7 +36,7 @@ pub(crate) trait DayMoment<E: Enclosure>: Drop {
 struct SeasonAt<'a, E: Enclosure, M> {
     moment: M,
     side: Side,
-    course: &'a SunCourse<E>,
+    linear_model: &'a SunLinearModel<E>,
 }
 
 // The test is made as the rule words it, so that an undecided line prints the sides of that
@@ -100,7 +100,7 @@ fn stands_at<E: Enclosure>(side: Side, t: E, trail: &mut Trail) -> Result<bool, 
 /// The same by the linear model of the sun over all days. Where it answers it has made the tests of `stands_at`; a failure says
 /// nothing.
 fn stands_near<E: Enclosure>(
-    course: &SunCourse<E>,
+    linear_model: &SunLinearModel<E>,
     side: Side,
     t: E,
     trail: &mut Trail,
@@ -108,13 +108,13 @@ fn stands_near<E: Enclosure>(
     ensures leads { IfOk result (λ b. Decides1 E.shown (stands_on side) t trail.old.count
         trail.new.count (Ok b)) }
 {
-    let longitude = sun_by(course, t, trail)?;
+    let longitude = sun_by(linear_model, t, trail)?;
     is_on_side(side, longitude, trail)
 }
 
 /// The same, as a try: where it fails, no test has been made.
 fn stands_tried<E: Enclosure>(
-    course: &SunCourse<E>,
+    linear_model: &SunLinearModel<E>,
     side: Side,
     t: E,
     trail: &mut Trail,
@@ -127,14 +127,14 @@ fn stands_tried<E: Enclosure>(
         |inner: &mut Trail| -> Result<bool, Fail>
             ensures { IfOk result (λ b. Decides1 E.shown (stands_on side) t inner.old.count
                 inner.new.count (Ok b)) }
-        { stands_near(course, side, t, inner) },
+        { stands_near(linear_model, side, t, inner) },
     )
 }
 
 /// Whether the sun stands on a side at a moment: by its linear model where that decides it, as it does but within hours of the
 /// bounds of the side, and else by its longitude at the moment.
 fn stands<E: Enclosure>(
-    course: &SunCourse<E>,
+    linear_model: &SunLinearModel<E>,
     side: Side,
     t: E,
     trail: &mut Trail,
@@ -142,7 +142,7 @@ fn stands<E: Enclosure>(
     ensures leads { Decides1 E.shown (stands_on side) t trail.old.count trail.new.count result }
     ensures close { IsSmallSide side → Closes1 E.BITS E.shown (2 ^ 33) IsMoment t result }
 {
-    match stands_tried(course, side, t, trail) {
+    match stands_tried(linear_model, side, t, trail) {
         Ok(found) => Ok(found),
         Err(_) => stands_at(side, t, trail),
     }
@@ -152,7 +152,7 @@ fn stands<E: Enclosure>(
 #[tactic(auto, using(book_model::proofs::Leads::leading), unfolding(book_model::specs::sky::Kinds::has_side_at))]
 fn has_side<E: Enclosure, M: DayMoment<E>>(
     moment: &M,
-    course: &SunCourse<E>,
+    linear_model: &SunLinearModel<E>,
     side: Side,
     day: i64,
     trail: &mut Trail,
@@ -163,7 +163,7 @@ fn has_side<E: Enclosure, M: DayMoment<E>>(
     ensures close { IsSmallSide side → E.BITS ≡ 56 → IfErr result IsClose }
 {
     let there = moment.at(day, trail)?;
-    stands(course, side, there, trail)
+    stands(linear_model, side, there, trail)
 }
 
 impl<E: Enclosure, M: DayMoment<E>> DayTest<E> for SeasonAt<'_, E, M> {
@@ -172,7 +172,7 @@ impl<E: Enclosure, M: DayMoment<E>> DayTest<E> for SeasonAt<'_, E, M> {
     ghost near_on = { λ s d. IsSmallSide s.side };
 
     fn holds(&self, day: i64, trail: &mut Trail) -> Result<bool, Fail> {
-        has_side::<E, M>(&self.moment, self.course, self.side, day, trail)
+        has_side::<E, M>(&self.moment, self.linear_model, self.side, day, trail)
     }
 }
 
@@ -219,7 +219,7 @@ fn search_start<E: Enclosure, M: DayMoment<E>>(
 #[tactic(auto, using(book_model::proofs::Leads::leading), unfolding(book_model::specs::sky::Kinds::season_day_of))]
 pub(crate) fn season_day<E: Enclosure, M: DayMoment<E>>(
     moment: M,
-    course: &SunCourse<E>,
+    linear_model: &SunLinearModel<E>,
     season: Season,
     day: i64,
     trail: &mut Trail,
@@ -234,7 +234,7 @@ pub(crate) fn season_day<E: Enclosure, M: DayMoment<E>>(
     let test = SeasonAt {
         moment,
         side: season.side,
-        course,
+        linear_model,
     };
     first_day::<E, SeasonAt<E, M>>(&test, start - 1, trail)
 }

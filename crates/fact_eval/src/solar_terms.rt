@@ -10,7 +10,7 @@ use crate::midnights::{day_at, longitude_at_midnight};
 use book_model::sun_tables::DEGREE_IN_TERMS;
 use book_model::{Fail, Place, Site};
 use encl_core::{Enclosure, Trail, floor_step, modulo};
-use moon_core::{SunCourse, sun_from_by};
+use moon_core::{SunLinearModel, sun_from_by};
 use time_scales::midnight;
 
 /// How many degrees the sun moves from one major solar term to the next, and from one minor term to the next.
@@ -53,7 +53,7 @@ fn term_longitude(first: i64, spans: i64) -> i64
 /// The day (R.D.) at a place on which the sun is next at a longitude, in degrees, once a day has begun there.
 #[tactic(auto, using(book_model::proofs::Leads::leading), unfolding(book_model::specs::sky::Kinds::longitude_day_of))]
 fn longitude_day<E: Enclosure>(
-    course: &SunCourse<E>,
+    linear_model: &SunLinearModel<E>,
     place: Place,
     longitude: i64,
     day: i64,
@@ -64,7 +64,7 @@ fn longitude_day<E: Enclosure>(
     ensures close { E.BITS ≡ 56 → IsSmall longitude → IsValueDay day → IfErr result IsClose }
 {
     let moment = sun_from_by(
-        course,
+        linear_model,
         E::from_int(longitude),
         midnight::<E>(place, day),
         trail,
@@ -79,7 +79,7 @@ fn longitude_day<E: Enclosure>(
 /// zone (`term_day_few`).
 #[tactic(auto, using(book_model::proofs::Leads::leading), unfolding(book_model::specs::sky::Kinds::term_day_of))]
 pub(crate) fn term_day<E: Enclosure>(
-    course: &SunCourse<E>,
+    linear_model: &SunLinearModel<E>,
     place: Place,
     first: i64,
     day: i64,
@@ -94,5 +94,11 @@ pub(crate) fn term_day<E: Enclosure>(
     ensures close { E.BITS ≡ 56 → IfErr result IsClose }
 {
     let spans = spans_short::<E>(place, first, day, trail)?;
-    longitude_day::<E>(course, place, term_longitude(first, spans), day, trail)
+    longitude_day::<E>(
+        linear_model,
+        place,
+        term_longitude(first, spans),
+        day,
+        trail,
+    )
 }

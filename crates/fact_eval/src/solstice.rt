@@ -9,7 +9,7 @@ use crate::seasons::{DayMoment, season_day};
 use book_model::calendar_tables::WINTER;
 use book_model::{Fail, Place};
 use encl_core::{Enclosure, Trail};
-use moon_core::SunCourse;
+use moon_core::SunLinearModel;
 use time_scales::midnight;
 
 /// Midnight at the end of a day at a place.
@@ -30,7 +30,7 @@ impl<E: Enclosure> DayMoment<E> for MidnightAfter {
 /// The day (R.D.) of the last winter solstice at a place before a day ends there: the first from the day before the estimated one
 /// on, of 46, at whose end the sun is past the solstice. It is void at `search` where there is none.
 pub(crate) fn solstice<E: Enclosure>(
-    course: &SunCourse<E>,
+    linear_model: &SunLinearModel<E>,
     place: Place,
     day: i64,
     trail: &mut Trail,
@@ -40,5 +40,5 @@ pub(crate) fn solstice<E: Enclosure>(
     ensures value { IfOk result IsFactValue }
     ensures close { E.BITS ≡ 56 → IfErr result IsClose }
 {
-    season_day::<E, MidnightAfter>(MidnightAfter { place }, course, WINTER, day, trail)
+    season_day::<E, MidnightAfter>(MidnightAfter { place }, linear_model, WINTER, day, trail)
 }

@@ -24,10 +24,10 @@ use crate::sunsets::{bahai_year, sunset_in_minutes};
 use book_model::{FIRST_DAY, Fact, Fail, Kind, LAST_DAY, Place, Site, Undecided};
 use encl_core::{Coarse, Enclosure, Trail};
 use fix_fine::Fine;
-use hindu_facts::{
+use hindu_sky::{
     calendar_year, sankranti, sign_after, sign_at_sunset, sign_before, solar_year, tithi,
 };
-use moon_core::{PhaseCourse, trail_with_first_moon};
+use moon_core::{PhaseLinearModel, trail_with_first_moon};
 use moon_rise::{moonrise, moonset};
 use oracle_core::{Answer, Evaluator};
 
@@ -36,7 +36,7 @@ use oracle_core::{Answer, Evaluator};
 #[derive(Drop)]
 struct Beginning<E: Enclosure> {
     trail: Trail,
-    course: PhaseCourse<E>,
+    linear_model: PhaseLinearModel<E>,
 }
 
 impl<E: Enclosure> Beginning<E> {
@@ -44,7 +44,7 @@ impl<E: Enclosure> Beginning<E> {
     fn new() -> Self {
         Beginning {
             trail: trail_with_first_moon::<E>(),
-            course: PhaseCourse::<E>::usual(),
+            linear_model: PhaseLinearModel::<E>::usual(),
         }
     }
 }
@@ -72,7 +72,7 @@ impl Staged {
 /// The value that the formula of a kind of fact gives at a place on a day (R.D.): one line for each kind.
 #[tactic(auto, using(crate::proofs::Rightness::keeping), unfolding(book_model::specs::sky::Facts::formula_of))]
 fn formula<E: Enclosure>(
-    course: &PhaseCourse<E>,
+    linear_model: &PhaseLinearModel<E>,
     kind: Kind,
     place: Place,
     day: i64,
@@ -88,32 +88,32 @@ fn formula<E: Enclosure>(
     match kind {
         Kind::Dt => dt::<E>(day, trail),
         Kind::Sun => sun_in_thousandths::<E>(day, trail),
-        Kind::Nowruz => nowruz::<E>(course.sun(), day, trail),
-        Kind::BahaiYear => bahai_year::<E>(course.sun(), day, trail),
-        Kind::Solstice => solstice::<E>(course.sun(), place, day, trail),
-        Kind::NewMoonBefore => new_moon_before::<E>(course, place, day, trail),
-        Kind::NewMoonFrom => new_moon_from::<E>(course, place, day, trail),
+        Kind::Nowruz => nowruz::<E>(linear_model.sun(), day, trail),
+        Kind::BahaiYear => bahai_year::<E>(linear_model.sun(), day, trail),
+        Kind::Solstice => solstice::<E>(linear_model.sun(), place, day, trail),
+        Kind::NewMoonBefore => new_moon_before::<E>(linear_model, place, day, trail),
+        Kind::NewMoonFrom => new_moon_from::<E>(linear_model, place, day, trail),
         Kind::Major => major::<E>(place, day, trail),
-        Kind::MajorTerm => term_day::<E>(course.sun(), place, 0, day, trail),
-        Kind::MinorTerm => term_day::<E>(course.sun(), place, 15, day, trail),
-        Kind::Phasis => phasis::<E>(course, place, day, trail),
-        Kind::Sign => sign_at_sunset::<E>(course.sun(), day, trail),
+        Kind::MajorTerm => term_day::<E>(linear_model.sun(), place, 0, day, trail),
+        Kind::MinorTerm => term_day::<E>(linear_model.sun(), place, 15, day, trail),
+        Kind::Phasis => phasis::<E>(linear_model, place, day, trail),
+        Kind::Sign => sign_at_sunset::<E>(linear_model.sun(), day, trail),
         Kind::SolarYear => solar_year::<E>(day, trail),
-        Kind::Sankranti => sankranti::<E>(course.sun(), day, trail),
+        Kind::Sankranti => sankranti::<E>(linear_model.sun(), day, trail),
         Kind::Tithi => tithi::<E>(day, trail),
-        Kind::SignBefore => sign_before::<E>(course, day, trail),
-        Kind::SignAfter => sign_after::<E>(course, day, trail),
+        Kind::SignBefore => sign_before::<E>(linear_model, day, trail),
+        Kind::SignAfter => sign_after::<E>(linear_model, day, trail),
         Kind::CalendarYear => calendar_year::<E>(day, trail),
-        Kind::NewMoon => phase_day::<E>(course, 0, day, trail),
-        Kind::FirstQuarter => phase_day::<E>(course, 90, day, trail),
-        Kind::FullMoon => phase_day::<E>(course, 180, day, trail),
-        Kind::LastQuarter => phase_day::<E>(course, 270, day, trail),
+        Kind::NewMoon => phase_day::<E>(linear_model, 0, day, trail),
+        Kind::FirstQuarter => phase_day::<E>(linear_model, 90, day, trail),
+        Kind::FullMoon => phase_day::<E>(linear_model, 180, day, trail),
+        Kind::LastQuarter => phase_day::<E>(linear_model, 270, day, trail),
         Kind::Sunset => sunset_in_minutes::<E>(place, day, trail),
         Kind::Distance => distance_in_kilometres::<E>(day, trail),
         Kind::Moonrise => moonrise::<E>(place, day, trail),
         Kind::Moonset => moonset::<E>(place, day, trail),
-        Kind::FrenchYear => french_year::<E>(course.sun(), day, trail),
-        Kind::Nisan => nisan::<E>(course, place, day, trail),
+        Kind::FrenchYear => french_year::<E>(linear_model.sun(), day, trail),
+        Kind::Nisan => nisan::<E>(linear_model, place, day, trail),
     }
 }
 
@@ -127,7 +127,7 @@ fn may_have_value(day: i64) -> bool
 
 /// `evaluate`, where the linear models of the moon and the sun are known over the usual days.
 fn evaluate_by<E: Enclosure>(
-    course: &PhaseCourse<E>,
+    linear_model: &PhaseLinearModel<E>,
     fact: Fact,
     trail: &mut Trail,
 ) -> Result<i64, Fail>
@@ -141,7 +141,7 @@ fn evaluate_by<E: Enclosure>(
     if !may_have_value(day) {
         return Err(Fail::Void(Site::Year));
     }
-    formula::<E>(course, fact.kind(), fact.place(), day, trail)
+    formula::<E>(linear_model, fact.kind(), fact.place(), day, trail)
 }
 
 /// The value of a fact by its formula over enclosures of one kind. It fails where a test is undecided, and over enclosures of the scale
@@ -153,8 +153,8 @@ pub fn evaluate<E: Enclosure>(fact: Fact, trail: &mut Trail) -> Result<i64, Fail
         → IfErr result (IsNoWholeDay fact.kind) }
     ensures close { E.BITS ≡ 56 → IfErr result IsClose }
 {
-    let course = PhaseCourse::<E>::usual();
-    evaluate_by(&course, fact, trail)
+    let linear_model = PhaseLinearModel::<E>::usual();
+    evaluate_by(&linear_model, fact, trail)
 }
 
 /// The answer that a result is.
@@ -176,7 +176,7 @@ fn answer_from<E: Enclosure>(beginning: &Beginning<E>, fact: Fact) -> Answer
     ensures close { E.BITS ≡ 56 → IsCloseAnswer result }
 {
     let mut trail = beginning.trail.anew();
-    answer(evaluate_by::<E>(&beginning.course, fact, &mut trail))
+    answer(evaluate_by::<E>(&beginning.linear_model, fact, &mut trail))
 }
 
 // The bounds on values are proved for these scales. What it says of an undecided test it says of each

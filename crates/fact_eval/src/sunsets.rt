@@ -17,7 +17,7 @@ use book_model::time_tables::HOUR;
 use book_model::{Fail, Location, Place, Site};
 use crescent::{Sunsets, sunset};
 use encl_core::{Enclosure, Trail};
-use moon_core::SunCourse;
+use moon_core::SunLinearModel;
 use std::marker::Model;
 use time_scales::zone_on;
 
@@ -58,7 +58,7 @@ impl<E: Enclosure> DayMoment<E> for SunsetAtTehran<E> {
 /// The first day (R.D.) of the Bahá'í year in which a day falls, by sunset at Tehran. It is void at `search` where there is none, and
 /// where a sunset is.
 pub(crate) fn bahai_year<E: Enclosure>(
-    course: &SunCourse<E>,
+    linear_model: &SunLinearModel<E>,
     day: i64,
     trail: &mut Trail,
 ) -> Result<i64, Fail>
@@ -68,7 +68,7 @@ pub(crate) fn bahai_year<E: Enclosure>(
     ensures close { E.BITS ≡ 56 → IfErr result IsClose }
 {
     let moment = SunsetAtTehran::<E>::new();
-    season_day::<E, SunsetAtTehran<E>>(moment, course, SPRING, day, trail)
+    season_day::<E, SunsetAtTehran<E>>(moment, linear_model, SPRING, day, trail)
 }
 
 /// A moment of universal time on a day (R.D.) as minutes of the time of a place after midnight.

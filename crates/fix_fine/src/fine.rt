@@ -8,23 +8,24 @@ ghost use Rattle.book_model.specs.numbers.Bounds.{Reach, limits_of};
 ghost use Rattle.book_model.specs.numbers.Relations.{Within, Narrow};
 ghost use Rattle.book_model.specs.programs.Programs.{multiples, cell_at};
 ghost use Rattle.book_model.specs.programs.Leading.{next_turn};
-ghost use Rattle.encl_core.specs.Steps.{IsOpenPeriod};
+ghost use Rattle.encl_core.specs.Steps.{IsUndecidedPeriod};
 ghost use Rattle.fix_fine.specs.Shown.{shown_fine, fine_proper};
 ghost use Rattle.fix_fine.specs.Table.{IsIntegerRow, IsFractionRow, IsFactorRow, IsWidenedRow, IsSumRow, IsMovedRow, IsCutRow, IsChoiceRow, IsHullRow, IsProductRow, IsSquareRow, IsQuotientRow, IsRootRow};
 
 use book_model::{Frac, Site, Undecided};
 use encl_core::{Enclosure, Span, Trail};
-use interval_ends::{
-    Ends, add_ends, cell_of_ends, clamp_ends, ends_at_fine_scale, ends_of_fraction, ends_of_span,
-    hull_ends, int_ends, max_ends, min_ends, neg_ends, open_at, order_of_ends, period_of_ends,
-    rest_of_period, scale_ends, sub_ends, widen_ends,
+use interval_endpoints::{
+    Endpoints, add_endpoints, cell_of_endpoints, clamp_endpoints, endpoints_at_fine_scale,
+    endpoints_of_fraction, endpoints_of_span, hull_endpoints, int_endpoints, max_endpoints,
+    min_endpoints, neg_endpoints, order_of_endpoints, period_of_endpoints, rest_of_period,
+    scale_endpoints, sub_endpoints, undecided_test_at, widen_endpoints,
 };
-use interval_products::{div_ends, mul_ends, root_ends, square_ends};
+use interval_products::{div_endpoints, mul_endpoints, root_endpoints, square_endpoints};
 
 /// An enclosure by two endpoints of 128 bits in units of 2⁻⁵⁶, rounded outwards; every number, where a number doesn't fit.
 #[derive(Clone, Copy, Debug, PartialEq)]
 pub struct Fine {
-    pub(crate) ends: Option<Ends<i128>>,
+    pub(crate) endpoints: Option<Endpoints<i128>>,
 }
 
 impl Enclosure for Fine {
@@ -43,7 +44,7 @@ impl Enclosure for Fine {
     const DEPTH: u32 = 40;
 
     fn whole() -> Self {
-        Fine { ends: None }
+        Fine { endpoints: None }
     }
 
     fn from_int(value: i64) -> Self
@@ -51,7 +52,7 @@ impl Enclosure for Fine {
         ensures table { IsIntegerRow (shown_fine result) }
     {
         Fine {
-            ends: int_ends(value),
+            endpoints: int_endpoints(value),
         }
     }
 
@@ -60,13 +61,13 @@ impl Enclosure for Fine {
         ensures table { IsFractionRow (fraction_of value) (shown_fine result) }
     {
         Fine {
-            ends: ends_of_fraction(value),
+            endpoints: endpoints_of_fraction(value),
         }
     }
 
     fn from_span(span: Span) -> Self {
         Fine {
-            ends: ends_of_span(span.lo, span.hi),
+            endpoints: endpoints_of_span(span.lo, span.hi),
         }
     }
 
@@ -75,7 +76,7 @@ impl Enclosure for Fine {
         ensures table { IsSumRow (shown_fine self) (shown_fine other) (shown_fine result) }
     {
         Fine {
-            ends: add_ends(self.ends, other.ends),
+            endpoints: add_endpoints(self.endpoints, other.endpoints),
         }
     }
 
@@ -84,7 +85,7 @@ impl Enclosure for Fine {
         ensures table { IsSumRow (shown_fine self) (shown_fine other) (shown_fine result) }
     {
         Fine {
-            ends: sub_ends(self.ends, other.ends),
+            endpoints: sub_endpoints(self.endpoints, other.endpoints),
         }
     }
 
@@ -93,7 +94,7 @@ impl Enclosure for Fine {
         ensures table { IsProductRow (shown_fine self) (shown_fine other) (shown_fine result) }
     {
         Fine {
-            ends: mul_ends(self.ends, other.ends),
+            endpoints: mul_endpoints(self.endpoints, other.endpoints),
         }
     }
 
@@ -102,7 +103,7 @@ impl Enclosure for Fine {
         ensures table { IsChoiceRow (shown_fine self) (shown_fine other) (shown_fine result) }
     {
         Fine {
-            ends: min_ends(self.ends, other.ends),
+            endpoints: min_endpoints(self.endpoints, other.endpoints),
         }
     }
 
@@ -111,7 +112,7 @@ impl Enclosure for Fine {
         ensures table { IsChoiceRow (shown_fine self) (shown_fine other) (shown_fine result) }
     {
         Fine {
-            ends: max_ends(self.ends, other.ends),
+            endpoints: max_endpoints(self.endpoints, other.endpoints),
         }
     }
 
@@ -121,7 +122,7 @@ impl Enclosure for Fine {
         ensures table { IsHullRow (shown_fine self) (shown_fine other) (shown_fine result) }
     {
         Fine {
-            ends: hull_ends(self.ends, other.ends),
+            endpoints: hull_endpoints(self.endpoints, other.endpoints),
         }
     }
 
@@ -130,7 +131,7 @@ impl Enclosure for Fine {
         ensures table { IsMovedRow (shown_fine self) (shown_fine result) }
     {
         Fine {
-            ends: neg_ends(self.ends),
+            endpoints: neg_endpoints(self.endpoints),
         }
     }
 
@@ -139,7 +140,7 @@ impl Enclosure for Fine {
         ensures table { IsWidenedRow (fraction_of by) (shown_fine self) (shown_fine result) }
     {
         Fine {
-            ends: widen_ends(self.ends, by),
+            endpoints: widen_endpoints(self.endpoints, by),
         }
     }
 
@@ -148,7 +149,7 @@ impl Enclosure for Fine {
         ensures table { IsFactorRow (fraction_of by) (shown_fine self) (shown_fine result) }
     {
         Fine {
-            ends: scale_ends(self.ends, by),
+            endpoints: scale_endpoints(self.endpoints, by),
         }
     }
 
@@ -157,7 +158,7 @@ impl Enclosure for Fine {
         ensures table { IsQuotientRow (shown_fine self) (shown_fine other) (shown_fine result) }
     {
         Fine {
-            ends: div_ends(self.ends, other.ends),
+            endpoints: div_endpoints(self.endpoints, other.endpoints),
         }
     }
 
@@ -166,7 +167,7 @@ impl Enclosure for Fine {
         ensures table { IsSquareRow (shown_fine self) (shown_fine result) }
     {
         Fine {
-            ends: square_ends(self.ends),
+            endpoints: square_endpoints(self.endpoints),
         }
     }
 
@@ -175,7 +176,7 @@ impl Enclosure for Fine {
         ensures table { IsRootRow (shown_fine self) (shown_fine result) }
     {
         Fine {
-            ends: root_ends(self.ends),
+            endpoints: root_endpoints(self.endpoints),
         }
     }
 
@@ -184,33 +185,37 @@ impl Enclosure for Fine {
         ensures table { IsCutRow (shown_fine self) (shown_fine result) }
     {
         Fine {
-            ends: Some(clamp_ends(self.ends)),
+            endpoints: Some(clamp_endpoints(self.endpoints)),
         }
     }
 
     fn span(self) -> Option<Span> {
-        let (lo, hi) = ends_at_fine_scale(self.ends)?;
+        let (lo, hi) = endpoints_at_fine_scale(self.endpoints)?;
         Some(Span { lo, hi })
     }
 
     fn less(self, other: Self, site: Site, trail: &mut Trail) -> Result<bool, Undecided> {
         let turn = trail.step();
-        match order_of_ends(self.ends, other.ends) {
+        match order_of_endpoints(self.endpoints, other.endpoints) {
             Some(answer) => Ok(answer),
-            None => Err(open_at(hull_ends(self.ends, other.ends), site, turn)),
+            None => Err(undecided_test_at(
+                hull_endpoints(self.endpoints, other.endpoints),
+                site,
+                turn,
+            )),
         }
     }
 
     fn floor(self, site: Site, trail: &mut Trail) -> Result<i64, Undecided> {
         let turn = trail.step();
-        match cell_of_ends(self.ends) {
+        match cell_of_endpoints(self.endpoints) {
             Some(cell) => match i64::try_from(cell) {
                 Ok(cell) => Ok(cell),
                 // A floor outside 64 bits has no place in a line: its test is undecided, and its bounds are those of an
                 // unbounded test.
-                Err(_) => Err(open_at::<i128>(None, site, turn)),
+                Err(_) => Err(undecided_test_at::<i128>(None, site, turn)),
             },
-            None => Err(open_at(self.ends, site, turn)),
+            None => Err(undecided_test_at(self.endpoints, site, turn)),
         }
     }
 
@@ -223,17 +228,17 @@ impl Enclosure for Fine {
         ensures narrow { IfOk result (λ y. (q : ℤ) (r : Reach) (x : Expression)
             → Narrow shown_fine (limits_of 56) r x self → Narrow shown_fine (limits_of 56) r
             (remainder modulus x q) y) }
-        ensures undecided { IfErr result (λ u. IsOpenPeriod modulus (shown_fine self) u.lo u.hi) }
+        ensures undecided { IfErr result (λ u. IsUndecidedPeriod modulus (shown_fine self) u.lo u.hi) }
         ensures named { IfErr result (λ u. (u.site ≡ site) × (u.turn ≡ next_turn trail.old.count)) }
         ensures counted { trail.new.count ≡ next_turn trail.old.count }
         ensures table { IfOk result (λ y. IsMovedRow (shown_fine self) (shown_fine y)) }
     {
         let turn = trail.step();
-        match period_of_ends(self.ends, modulus) {
+        match period_of_endpoints(self.endpoints, modulus) {
             Some(period) => Ok(Fine {
-                ends: rest_of_period(self.ends, modulus, period),
+                endpoints: rest_of_period(self.endpoints, modulus, period),
             }),
-            None => Err(open_at(self.ends, site, turn)),
+            None => Err(undecided_test_at(self.endpoints, site, turn)),
         }
     }
 }

@@ -10,8 +10,8 @@ abbrev pub IsCalendarYear : ℤ → Type 0
 IsCalendarYear year = (pos 2 ≤ℤ year) × (year ≤ℤ pos 2738)
 
 -- the days from one value of a fact to another
-abbrev pub IsStretch : ℤ → Type 0
-IsStretch days = (negsuc 19999999 ≤ℤ days) × (days ≤ℤ pos 20000000)
+abbrev pub IsIntervalOfDays : ℤ → Type 0
+IsIntervalOfDays days = (negsuc 19999999 ≤ℤ days) × (days ≤ℤ pos 20000000)
 
 -- the months that such an interval has
 abbrev pub IsNearMonth : ℤ → Type 0

@@ -7,7 +7,7 @@ ghost use Rattle.book_model.specs.declared.calendar.Calendar.TheVariants.{Hebrew
 ghost use Rattle.book_model.specs.sky.Facts.{IsFactDay, IsFactValue};
 ghost use Rattle.calendar_math.specs.Days.{IsCalendarDay};
 ghost use Rattle.hebrew_observed.specs.Dates.{fields_of_date};
-ghost use Rattle.hebrew_observed.specs.Months.{IsCalendarYear, IsNisanYear, IsStretch};
+ghost use Rattle.hebrew_observed.specs.Months.{IsCalendarYear, IsNisanYear, IsIntervalOfDays};
 ghost use Rattle.hebrew_observed.specs.Years.{hebrew_in_year};
 ghost use Rattle.oracle_core.specs.Asking.{Asks, AsksAs};
 
@@ -56,7 +56,7 @@ fn days_between(from: i64, to: i64) -> i64
     requires from { IsFactValue from }
     requires to { IsFactValue to }
     ensures days { result ≡ to -ℤ from }
-    ensures near { IsStretch result }
+    ensures near { IsIntervalOfDays result }
 {
     to - from
 }

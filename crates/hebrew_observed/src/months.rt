@@ -2,7 +2,7 @@
 ghost use Rattle.std.specs.Prelude.{◌≡◌, ◌≤ℤ◌, pos};
 ghost use Rattle.book_model.specs.calendars.HebrewObserved as spec;
 ghost use Rattle.book_model.specs.sky.Facts.{IsFactDay, IsFactValue};
-ghost use Rattle.hebrew_observed.specs.Months.{IsMonth, IsNearMonth, IsNisanYear, IsStretch};
+ghost use Rattle.hebrew_observed.specs.Months.{IsMonth, IsNearMonth, IsNisanYear, IsIntervalOfDays};
 
 use book_model::calendar_tables::OBSERVED_MONTH;
 use book_model::{Fact, Kind, Place};
@@ -28,7 +28,7 @@ pub(crate) fn nisan_fact(year: i64) -> Fact
 /// How many months, to the nearest, so many days are.
 #[tactic(auto, unfolding(book_model::specs::calendars::HebrewObserved::observed_months_of))]
 fn months_of(days: i64) -> i64
-    requires days { IsStretch days }
+    requires days { IsIntervalOfDays days }
     ensures months { result ≡ spec.observed_months_of days }
     ensures near { IsNearMonth result }
 {
@@ -37,7 +37,7 @@ fn months_of(days: i64) -> i64
 
 /// The number, from 1, of the month that begins so many days after the first of Nisan.
 pub(crate) fn month_begun(days: i64) -> i64
-    requires days { IsStretch days }
+    requires days { IsIntervalOfDays days }
     ensures month { result ≡ spec.month_begun days }
 {
     months_of(days) + 1

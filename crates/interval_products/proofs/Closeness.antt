@@ -4,12 +4,12 @@ use Rattle.std.proofs.lemmas.Int.{ints}
 use lib.Signed.{≤ℤ_refl}
 use Rattle.book_model.proofs.Ring.{at, lit, ◌⊕◌, ◌⊖◌, ◌⊗◌}
 use Rattle.book_model.proofs.Bounds.{◌≼◌, known, ◌⊞◌, ◌⊠◌, times as naturally, le_by}
-use Rattle.interval_ends.specs.WholeRounding.{IsFloor, IsCeiling, IsBelowFour, IsAboveFour, IsAboveEachBelow, IsBelowEachAbove}
-use Rattle.interval_ends.proofs.Quotients.{products_mono}
-use Rattle.interval_ends.specs.Scales.{Scale, coarse, fine, unit}
-use Rattle.interval_ends.specs.Rounding.{AreQuotientsAt, least_square_of}
-use Rattle.interval_ends.proofs.Products.{corners_apart, AreSquares, by_sign}
-use Rattle.interval_ends.proofs.RootWidths.{AreRoots}
+use Rattle.interval_endpoints.specs.WholeRounding.{IsFloor, IsCeiling, IsBelowFour, IsAboveFour, IsAboveEachBelow, IsBelowEachAbove}
+use Rattle.interval_endpoints.proofs.Quotients.{products_mono}
+use Rattle.interval_endpoints.specs.Scales.{Scale, coarse, fine, unit}
+use Rattle.interval_endpoints.specs.Rounding.{AreQuotientsAt, least_square_of}
+use Rattle.interval_endpoints.proofs.Products.{corners_apart, AreSquares, by_sign}
+use Rattle.interval_endpoints.proofs.RootWidths.{AreRoots}
 use Rattle.interval_products.specs.Close.{AreCorners, size_between, IsCloseProduct, IsCloseSquare, IsCloseQuotient, IsCloseRoot}
 
 pub unit_positive : (scale : Scale) → pos 0 <ℤ unit scale

@@ -7,10 +7,10 @@ use Rattle.std.proofs.lemmas.Bool.{ltb-true}
 use lib.Signed.{≤ℤ_refl}
 use Rattle.book_model.specs.Interval.{Interval, between}
 use Rattle.book_model.specs.numbers.Bounds.{Bound, unbounded, bounded, range_size, ceil_div, limited, product_bound, power_bound, root_bound, quotient_bound, IsNarrow}
-use Rattle.interval_ends.specs.Rounding.{IsLeastBy, IsGreatestBy}
-use Rattle.interval_ends.specs.Scales.{Scale, coarse, fine, at_scale, limits_on, word}
-use Rattle.interval_ends.proofs.Keeping.{AreKept, kept_of, both}
-use Rattle.interval_ends.proofs.Products.{IsBounded, corner_sized, sized, ceil_above}
+use Rattle.interval_endpoints.specs.Rounding.{IsLeastBy, IsGreatestBy}
+use Rattle.interval_endpoints.specs.Scales.{Scale, coarse, fine, at_scale, limits_on, word}
+use Rattle.interval_endpoints.proofs.Keeping.{AreKept, kept_of, both}
+use Rattle.interval_endpoints.proofs.Products.{IsBounded, corner_sized, sized, ceil_above}
 use Rattle.interval_products.specs.Room.{HaveProducts, IsDividend, HasQuotient, HasFineQuotient, HaveQuotients, HaveFineQuotients, HaveOpposites, HaveQuotientsBy, HasRoot}
 
 -- an endpoint may be divided, and so may its opposite

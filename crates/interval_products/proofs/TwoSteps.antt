@@ -5,8 +5,8 @@ use Rattle.std.specs.Int.{w128, int_div_euclid, int_rem_euclid}
 use Rattle.std.proofs.lemmas.Int.{ints}
 use Rattle.book_model.proofs.Ring.{at, lit, ◌⊕◌, ◌⊖◌, ◌⊗◌}
 use Rattle.book_model.proofs.Bounds.{◌≼◌, known, ◌⊞◌, ◌⊠◌, times as naturally, le_by, le_over}
-use Rattle.interval_ends.specs.WholeRounding.{IsFloor, IsCeiling}
-use Rattle.interval_ends.proofs.Quotients.{next_le, lt_next}
+use Rattle.interval_endpoints.specs.WholeRounding.{IsFloor, IsCeiling}
+use Rattle.interval_endpoints.proofs.Quotients.{next_le, lt_next}
 use Rattle.interval_products.specs.Room.{HasFineQuotient, HasParts}
 
 -- a number is its whole quotient times the divisor, and what is left, which is less than the divisor

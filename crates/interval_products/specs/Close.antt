@@ -1,10 +1,10 @@
 -- How far apart the endpoints of products, squares, quotients and roots are, in units, and the greatest and the least of products.
 use Rattle.std.specs.Prelude.{◌≡◌, ℕ, max, unsigned_abs, ◌<◌, ◌⊎◌, ℤ, pos, ◌+ℤ◌, ◌-ℤ◌, ◌*ℤ◌, ◌≤ℤ◌, ◌<ℤ◌, Option, IfSome, IsSome}
 use Rattle.std.specs.Int.{w128}
-use Rattle.interval_ends.specs.WholeRounding.{IsBelowFour, IsAboveFour, IsAboveEachBelow, IsBelowEachAbove}
-use Rattle.interval_ends.specs.Scales.{Scale, unit, word}
-use Rattle.interval_ends.specs.declared.word.MachineWord.{Ghosts}
-use Rattle.interval_ends.specs.declared.ends.Ends.{Ends}
+use Rattle.interval_endpoints.specs.WholeRounding.{IsBelowFour, IsAboveFour, IsAboveEachBelow, IsBelowEachAbove}
+use Rattle.interval_endpoints.specs.Scales.{Scale, unit, word}
+use Rattle.interval_endpoints.specs.declared.word.MachineWord.{Ghosts}
+use Rattle.interval_endpoints.specs.declared.endpoints.Endpoints.{Endpoints}
 
 -- u is the least and g the greatest product of a number from x to y and one from c to d
 pub record AreCorners (u g x y c d : ℤ) : Type 0 where
@@ -39,18 +39,18 @@ IsCloseRoot scale x y lo hi =
     pos 0 <ℤ x → (e : ℕ) → hi -ℤ lo ≡ pos 2 +ℤ pos e → (pos 4 *ℤ ((pos e *ℤ pos e) *ℤ x)) ≤ℤ (((y -ℤ x) *ℤ (y -ℤ x)) *ℤ unit scale)
 
 -- what holds of the endpoints of a number and of a result, where both have any
-abbrev pub OfOne : {I : Type 0} {g : Ghosts I} → ((x y lo hi : ℤ) → Type 0) → Option (Ends I g) → Option (Ends I g) → Type 0
+abbrev pub OfOne : {I : Type 0} {g : Ghosts I} → ((x y lo hi : ℤ) → Type 0) → Option (Endpoints I g) → Option (Endpoints I g) → Type 0
 OfOne {g = g} P x r = IfSome x (λ p. IfSome r (λ e. P (g.value p.lo) (g.value p.hi) (g.value e.lo) (g.value e.hi)))
 
 -- the same of two numbers
-abbrev pub OfTwo : {I : Type 0} {g : Ghosts I} → ((x y c d lo hi : ℤ) → Type 0) → (x y r : Option (Ends I g)) → Type 0
+abbrev pub OfTwo : {I : Type 0} {g : Ghosts I} → ((x y c d lo hi : ℤ) → Type 0) → (x y r : Option (Endpoints I g)) → Type 0
 OfTwo {g = g} P x y r = IfSome x (λ p. IfSome y (λ q. IfSome r
     (λ e. P (g.value p.lo) (g.value p.hi) (g.value q.lo) (g.value q.hi) (g.value e.lo) (g.value e.hi))))
 
 -- the result has endpoints in a word of 128 bits, where this holds of the endpoints of a number
-abbrev pub ThereOfOne : {I : Type 0} {g : Ghosts I} → ((x y : ℤ) → Type 0) → Option (Ends I g) → Option (Ends I g) → Type 0
+abbrev pub ThereOfOne : {I : Type 0} {g : Ghosts I} → ((x y : ℤ) → Type 0) → Option (Endpoints I g) → Option (Endpoints I g) → Type 0
 ThereOfOne {g = g} P x r = IfSome x (λ p. word g.scale ≡ w128 → P (g.value p.lo) (g.value p.hi) → IsSome r)
 
 -- the same of two numbers
-abbrev pub ThereOfTwo : {I : Type 0} {g : Ghosts I} → ((x y c d : ℤ) → Type 0) → (x y r : Option (Ends I g)) → Type 0
+abbrev pub ThereOfTwo : {I : Type 0} {g : Ghosts I} → ((x y c d : ℤ) → Type 0) → (x y r : Option (Endpoints I g)) → Type 0
 ThereOfTwo {g = g} P x y r = IfSome x (λ p. IfSome y (λ q. word g.scale ≡ w128 → P (g.value p.lo) (g.value p.hi) (g.value q.lo) (g.value q.hi) → IsSome r))

@@ -2,7 +2,7 @@
 -- for those of endpoints of 128 bits up to a size.
 use Rattle.std.specs.Prelude.{ℤ, pos, neg_ℤ, ◌^◌, ◌+ℤ◌, ◌-ℤ◌, ◌*ℤ◌, ◌≤ℤ◌, ◌<ℤ◌, ◌⊎◌, FitsSigned}
 use Rattle.std.specs.Int.{w128}
-use Rattle.interval_ends.specs.Scales.{Scale, coarse, fine}
+use Rattle.interval_endpoints.specs.Scales.{Scale, coarse, fine}
 
 -- a product of two endpoints
 abbrev pub HasProduct : Scale → ℤ → Type 0

@@ -2,14 +2,14 @@
 ghost use Rattle.std.specs.Prelude.{ℕ, pos, ◌≤ℤ◌, ◌<ℤ◌, Some, IfSome, IsSome};
 ghost use Rattle.book_model.specs.Interval.{◌⊆◌, quotient};
 ghost use Rattle.book_model.specs.numbers.Bounds.{Bound, IsNarrow, quotient_bound};
-ghost use Rattle.interval_ends.specs.Rounding.{IsLeastBy, IsGreatestBy, AreQuotientsAt};
-ghost use Rattle.interval_ends.specs.Scales.{limits_on};
-ghost use Rattle.interval_ends.specs.Shown.{shown_ends, shown_of};
+ghost use Rattle.interval_endpoints.specs.Rounding.{IsLeastBy, IsGreatestBy, AreQuotientsAt};
+ghost use Rattle.interval_endpoints.specs.Scales.{limits_on};
+ghost use Rattle.interval_endpoints.specs.Shown.{shown_endpoints, shown_of};
 ghost use Rattle.interval_products.specs.Room.{IsDividend, HaveQuotients, HaveQuotientsBy};
 ghost use Rattle.interval_products.specs.Close.{IsCloseQuotient, OfTwo, ThereOfTwo};
 
 use crate::word::RoundingWord;
-use interval_ends::{Ends, ends_of};
+use interval_endpoints::{Endpoints, endpoints_of};
 
 // So only two quotients of four are taken. A bound keeps the sign of its range through products,
 // squares and quotients, since a quotient has a bound only by a divisor of one sign.
@@ -47,11 +47,11 @@ fn quotients<I: RoundingWord>(a: i128, b: i128, c: i128, d: i128) -> Option<(i12
 
 /// The endpoints around the quotients by a divisor above 0.
 #[inline]
-fn positive_quotients<I: RoundingWord>(x: Ends<I>, y: Ends<I>) -> Option<Ends<I>>
+fn positive_quotients<I: RoundingWord>(x: Endpoints<I>, y: Endpoints<I>) -> Option<Endpoints<I>>
     requires { pos 0 <ℤ I.value y.lo }
-    ensures holds { quotient (shown_of x) (shown_of y) ⊆ shown_ends result }
+    ensures holds { quotient (shown_of x) (shown_of y) ⊆ shown_endpoints result }
     ensures narrow { (w : ℕ) (a b : Bound) → IsNarrow w a (shown_of x) → IsNarrow w b (shown_of y)
-        → IsNarrow w (quotient_bound (limits_on I.scale) a b) (shown_ends result) }
+        → IsNarrow w (quotient_bound (limits_on I.scale) a b) (shown_endpoints result) }
     ensures close { OfTwo (IsCloseQuotient I.scale) (Some x) (Some y) result }
     ensures some { ThereOfTwo (HaveQuotientsBy I.scale) (Some x) (Some y) result }
 {
@@ -60,14 +60,14 @@ fn positive_quotients<I: RoundingWord>(x: Ends<I>, y: Ends<I>) -> Option<Ends<I>
     let c = y.lo.wide();
     let d = y.hi.wide();
     let (lo, hi) = quotients::<I>(a, b, c, d)?;
-    ends_of(lo, hi)
+    endpoints_of(lo, hi)
 }
 
 /// The endpoints around the quotients by a divisor below 0: those of the opposites.
 #[inline]
-fn negative_quotients<I: RoundingWord>(x: Ends<I>, y: Ends<I>) -> Option<Ends<I>>
+fn negative_quotients<I: RoundingWord>(x: Endpoints<I>, y: Endpoints<I>) -> Option<Endpoints<I>>
     requires { I.value y.hi <ℤ pos 0 }
-    ensures holds { quotient (shown_of x) (shown_of y) ⊆ shown_ends result }
+    ensures holds { quotient (shown_of x) (shown_of y) ⊆ shown_endpoints result }
     ensures close { OfTwo (IsCloseQuotient I.scale) (Some x) (Some y) result }
     ensures some { ThereOfTwo (HaveQuotientsBy I.scale) (Some x) (Some y) result }
 {
@@ -76,16 +76,19 @@ fn negative_quotients<I: RoundingWord>(x: Ends<I>, y: Ends<I>) -> Option<Ends<I>
     let c = y.hi.wide().checked_neg()?;
     let d = y.lo.wide().checked_neg()?;
     let (lo, hi) = quotients::<I>(a, b, c, d)?;
-    ends_of(lo, hi)
+    endpoints_of(lo, hi)
 }
 
 /// The endpoints around the quotients; none, where the divisor may be 0.
 #[inline]
-pub fn div_ends<I: RoundingWord>(x: Option<Ends<I>>, y: Option<Ends<I>>) -> Option<Ends<I>>
-    ensures holds { quotient (shown_ends x) (shown_ends y) ⊆ shown_ends result }
-    ensures narrow { (w : ℕ) (a b : Bound) → IsNarrow w a (shown_ends x)
-        → IsNarrow w b (shown_ends y) → IsNarrow w (quotient_bound (limits_on I.scale) a b)
-        (shown_ends result) }
+pub fn div_endpoints<I: RoundingWord>(
+    x: Option<Endpoints<I>>,
+    y: Option<Endpoints<I>>,
+) -> Option<Endpoints<I>>
+    ensures holds { quotient (shown_endpoints x) (shown_endpoints y) ⊆ shown_endpoints result }
+    ensures narrow { (w : ℕ) (a b : Bound) → IsNarrow w a (shown_endpoints x)
+        → IsNarrow w b (shown_endpoints y) → IsNarrow w (quotient_bound (limits_on I.scale) a b)
+        (shown_endpoints result) }
     ensures close { OfTwo (IsCloseQuotient I.scale) x y result }
     ensures some { ThereOfTwo (HaveQuotientsBy I.scale) x y result }
 {

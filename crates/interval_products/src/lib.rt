@@ -6,11 +6,11 @@
 //! (`narrow`), and says how far apart its endpoints are (`close`) and when 128 bits have room for them (`some`).
 //!
 //! - `RoundingWord`: a word's products, quotients and roots, rounded to its scale;
-//! - `mul_ends`, `square_ends`: products and squares;
-//! - `div_ends`: quotients; every number, where the divisor may be 0;
-//! - `root_ends`: roots; a negative number counts as 0.
+//! - `mul_endpoints`, `square_endpoints`: products and squares;
+//! - `div_endpoints`: quotients; every number, where the divisor may be 0;
+//! - `root_endpoints`: roots; a negative number counts as 0.
 //!
-//! These stand apart from `interval_ends`, since a crate has at most a hundred functions.
+//! These stand apart from `interval_endpoints`, since a crate has at most a hundred functions.
 #![tactic(auto)]
 
 mod dividing;
@@ -20,7 +20,7 @@ mod stepping;
 mod whole_roots;
 mod word;
 
-pub use dividing::div_ends;
-pub use products::{mul_ends, square_ends};
-pub use roots::root_ends;
+pub use dividing::div_endpoints;
+pub use products::{mul_endpoints, square_endpoints};
+pub use roots::root_endpoints;
 pub use word::RoundingWord;

@@ -2,18 +2,18 @@
 ghost use Rattle.std.specs.Prelude.{◌≡◌, ℕ, pos, ◌*ℤ◌, ◌≤ℤ◌, IfSome, IsSome};
 ghost use Rattle.book_model.specs.Interval.{◌⊆◌, product, power};
 ghost use Rattle.book_model.specs.numbers.Bounds.{Bound, IsNarrow, product_bound, power_bound};
-ghost use Rattle.interval_ends.specs.Rounding.{least_square_of};
-ghost use Rattle.interval_ends.specs.Scales.{limits_on};
-ghost use Rattle.interval_ends.specs.Shown.{shown_ends};
+ghost use Rattle.interval_endpoints.specs.Rounding.{least_square_of};
+ghost use Rattle.interval_endpoints.specs.Scales.{limits_on};
+ghost use Rattle.interval_endpoints.specs.Shown.{shown_endpoints};
 ghost use Rattle.interval_products.specs.Room.{HaveProducts};
 ghost use Rattle.interval_products.specs.Close.{AreCorners, IsCloseProduct, IsCloseSquare, OfOne, OfTwo, ThereOfOne, ThereOfTwo};
 
 use crate::word::RoundingWord;
-use interval_ends::{Ends, ends_of, greatest_of, least_of};
+use interval_endpoints::{Endpoints, endpoints_of, greatest_of, least_of};
 
 /// The least and the greatest of the four products of the endpoints.
 #[inline]
-fn all_products<I: RoundingWord>(x: Ends<I>, y: Ends<I>) -> Option<(i128, i128)>
+fn all_products<I: RoundingWord>(x: Endpoints<I>, y: Endpoints<I>) -> Option<(i128, i128)>
     ensures corners { IfSome result (λ m. AreCorners m.0 m.1 (I.value x.lo) (I.value x.hi)
         (I.value y.lo) (I.value y.hi)) }
     ensures some { HaveProducts I.scale (I.value x.lo) (I.value x.hi) (I.value y.lo) (I.value y.hi)
@@ -29,7 +29,7 @@ fn all_products<I: RoundingWord>(x: Ends<I>, y: Ends<I>) -> Option<(i128, i128)>
 // Most factors aren't below 0: two products and not four.
 /// The same, of endpoints that are not below 0.
 #[inline]
-fn natural_products<I: RoundingWord>(x: Ends<I>, y: Ends<I>) -> Option<(i128, i128)>
+fn natural_products<I: RoundingWord>(x: Endpoints<I>, y: Endpoints<I>) -> Option<(i128, i128)>
     requires first { pos 0 ≤ℤ I.value x.lo }
     requires second { pos 0 ≤ℤ I.value y.lo }
     ensures corners { IfSome result (λ m. AreCorners m.0 m.1 (I.value x.lo) (I.value x.hi)
@@ -44,7 +44,7 @@ fn natural_products<I: RoundingWord>(x: Ends<I>, y: Ends<I>) -> Option<(i128, i1
 
 /// The least and the greatest product of the endpoints.
 #[inline]
-fn products<I: RoundingWord>(x: Ends<I>, y: Ends<I>) -> Option<(i128, i128)>
+fn products<I: RoundingWord>(x: Endpoints<I>, y: Endpoints<I>) -> Option<(i128, i128)>
     ensures corners { IfSome result (λ m. AreCorners m.0 m.1 (I.value x.lo) (I.value x.hi)
         (I.value y.lo) (I.value y.hi)) }
     ensures some { HaveProducts I.scale (I.value x.lo) (I.value x.hi) (I.value y.lo) (I.value y.hi)
@@ -62,18 +62,21 @@ fn products<I: RoundingWord>(x: Ends<I>, y: Ends<I>) -> Option<(i128, i128)>
 
 /// The endpoints around the products of the members.
 #[inline]
-pub fn mul_ends<I: RoundingWord>(x: Option<Ends<I>>, y: Option<Ends<I>>) -> Option<Ends<I>>
-    ensures holds { product (shown_ends x) (shown_ends y) ⊆ shown_ends result }
-    ensures narrow { (w : ℕ) (a b : Bound) → IsNarrow w a (shown_ends x)
-        → IsNarrow w b (shown_ends y) → IsNarrow w (product_bound (limits_on I.scale) a b)
-        (shown_ends result) }
+pub fn mul_endpoints<I: RoundingWord>(
+    x: Option<Endpoints<I>>,
+    y: Option<Endpoints<I>>,
+) -> Option<Endpoints<I>>
+    ensures holds { product (shown_endpoints x) (shown_endpoints y) ⊆ shown_endpoints result }
+    ensures narrow { (w : ℕ) (a b : Bound) → IsNarrow w a (shown_endpoints x)
+        → IsNarrow w b (shown_endpoints y) → IsNarrow w (product_bound (limits_on I.scale) a b)
+        (shown_endpoints result) }
     ensures close { OfTwo (IsCloseProduct I.scale) x y result }
     ensures some { ThereOfTwo (HaveProducts I.scale) x y result }
 {
     let x = x?;
     let y = y?;
     let (least, greatest) = products(x, y)?;
-    ends_of(I::floor_product(least), I::ceil_product(greatest))
+    endpoints_of(I::floor_product(least), I::ceil_product(greatest))
 }
 
 /// The least square of a number between two endpoints whose squares are these.
@@ -94,10 +97,10 @@ fn least_square(lo: i128, hi: i128, low_square: i128, high_square: i128) -> i128
 
 /// The endpoints around the squares.
 #[inline]
-pub fn square_ends<I: RoundingWord>(x: Option<Ends<I>>) -> Option<Ends<I>>
-    ensures holds { power (shown_ends x) 2 ⊆ shown_ends result }
-    ensures narrow { (w : ℕ) (a : Bound) → IsNarrow w a (shown_ends x)
-        → IsNarrow w (power_bound (limits_on I.scale) a 2) (shown_ends result) }
+pub fn square_endpoints<I: RoundingWord>(x: Option<Endpoints<I>>) -> Option<Endpoints<I>>
+    ensures holds { power (shown_endpoints x) 2 ⊆ shown_endpoints result }
+    ensures narrow { (w : ℕ) (a : Bound) → IsNarrow w a (shown_endpoints x)
+        → IsNarrow w (power_bound (limits_on I.scale) a 2) (shown_endpoints result) }
     ensures close { OfOne (IsCloseSquare I.scale) x result }
     ensures some { ThereOfOne (λ lo hi. HaveProducts I.scale lo hi lo hi) x result }
 {
@@ -105,5 +108,5 @@ pub fn square_ends<I: RoundingWord>(x: Option<Ends<I>>) -> Option<Ends<I>>
     let low = x.lo.product(x.lo)?;
     let high = x.hi.product(x.hi)?;
     let least = least_square(x.lo.wide(), x.hi.wide(), low, high);
-    ends_of(I::floor_product(least), I::ceil_product(low.max(high)))
+    endpoints_of(I::floor_product(least), I::ceil_product(low.max(high)))
 }

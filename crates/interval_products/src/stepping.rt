@@ -1,10 +1,10 @@
 //! Quotients of numbers in units of 2⁻⁵⁶, in two steps: the whole quotient, and that of what it leaves.
 ghost use Rattle.std.specs.Prelude.{pos, ◌^◌, ◌*ℤ◌, ◌<ℤ◌, IfSome, IsSome};
-ghost use Rattle.interval_ends.specs.WholeRounding.{IsFloor, IsCeiling};
+ghost use Rattle.interval_endpoints.specs.WholeRounding.{IsFloor, IsCeiling};
 ghost use Rattle.interval_products.specs.Room.{HasFineQuotient, HasParts};
 
-use interval_ends::parts::ONE;
-use interval_ends::{ceil_div, floor_div};
+use interval_endpoints::parts::ONE;
+use interval_endpoints::{ceil_div, floor_div};
 
 // A dividend that can't be raised to the scale within 128 bits: the whole quotient, and that of
 // what it leaves. So only the divisor has to be small, and the quotient itself.

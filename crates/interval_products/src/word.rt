@@ -5,14 +5,14 @@
 //! so that the lemmas on too little room (`Room.antt`) are one line there.
 ghost use Rattle.std.specs.Prelude.{◌≡◌, ◌<ℤ◌, ◌≤ℤ◌, ◌+ℤ◌, ◌-ℤ◌, ◌*ℤ◌, pos, IfSome, IsNone, FitsSigned};
 ghost use Rattle.book_model.specs.numbers.Roots.{natural_part};
-ghost use Rattle.interval_ends.specs.WholeRounding.{IsFloor, IsCeiling};
-ghost use Rattle.interval_ends.specs.Scales.{unit, word};
+ghost use Rattle.interval_endpoints.specs.WholeRounding.{IsFloor, IsCeiling};
+ghost use Rattle.interval_endpoints.specs.Scales.{unit, word};
 ghost use Rattle.interval_products.specs.Room.{HasProduct, IsDividend, HasQuotient, HasRoot};
 
 use crate::stepping::{stepped_down, stepped_up};
 use crate::whole_roots::whole_root;
-use interval_ends::parts::ONE;
-use interval_ends::{MachineWord, ceil_div, floor_div};
+use interval_endpoints::parts::ONE;
+use interval_endpoints::{MachineWord, ceil_div, floor_div};
 
 /// A word whose products, quotients and roots are rounded to its scale. They are taken in 128 bits, and are `None` only where
 /// these have no room.
@@ -36,7 +36,7 @@ pub trait RoundingWord: MachineWord {
     fn ceil_product(product: i128) -> i128
         ensures ceiling { IsCeiling result product (unit Self.scale) };
 
-    // Divisors are above 0: the sign is dealt with once, by `div_ends`.
+    // Divisors are above 0: the sign is dealt with once, by `div_endpoints`.
     /// The quotient of two numbers of units, in units, rounded down.
     fn quotient_down(dividend: i128, divisor: i128) -> Option<i128>
         requires dividend { IsDividend Self.scale dividend }

@@ -51,11 +51,11 @@ first_stays (b ∷ bs) d h = refl
 digit_more : (n : ℕ) (ds : List ℕ) → 10 ≤ n → Spells (n / 10) ds → Spells n (ds ++ (48 + n % 10) ∷ [])
 digit_more n ds h s =
     let whole : 10 * (n / 10) + (48 + n % 10 - 48) ≡ n = omega arith in
-    let front : 0 < n / 10 = omega arith in
+    let prefix : 0 < n / 10 = omega arith in
     record {
       value = rw whole at (value_end 0 (n / 10) (48 + n % 10) ds s.value (omega arith) (omega arith));
       some = omega (arith, length-append ds ((48 + n % 10) ∷ []));
-      first = λ k. rw (first_stays ds (48 + n % 10) s.some) (s.first front);
+      first = λ k. rw (first_stays ds (48 + n % 10) s.some) (s.first prefix);
       digit = rw (first_stays ds (48 + n % 10) s.some) s.digit;
       alone = λ e. absurd (omega arith);
       printed = rw (list_all-append is_printable ds ((48 + n % 10) ∷ [])) (rw s.printed (digit_spells (n % 10) (omega arith)).printed);

@@ -2,7 +2,7 @@ pub mod DateText
 pub mod FieldText
 pub mod DateDays
 pub mod LineWords
-pub mod PrintedFronts
+pub mod PrintedPrefixes
 pub mod Requests
 pub mod OtherCalendars
 pub mod YearNumbers

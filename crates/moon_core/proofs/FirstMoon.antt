@@ -10,11 +10,11 @@ use Rattle.book_model.proofs.Intervals.{within_trans, within_refl}
 use Rattle.book_model.specs.declared.new_moon_tables.TheConstants.{NEW_MOON_TERMS, PLANET_TERMS}
 use Rattle.book_model.specs.numbers.Expressions.{Expression, World, value, subtract}
 use Rattle.book_model.specs.numbers.Octants.{sine_of_degrees}
-use Rattle.book_model.specs.numbers.Polynomials.{polynomial_at, polynomial_at_to, quadratic_of, quadratic_wave_of}
+use Rattle.book_model.specs.numbers.Polynomials.{polynomial_at, polynomial_at_to, quadratic_of, quadratic_term_of}
 use Rattle.book_model.specs.numbers.Ranges.{IsBetween}
 use Rattle.book_model.specs.numbers.Terms.{terms_to, terms_of, times_power}
 use Rattle.book_model.specs.programs.Programs.{run, valued, outcome}
-use Rattle.book_model.specs.sky.NewMoons.{centuries_of_months, new_moon_angles_of, angle_of_new_moon_term, new_moon_term_of, no_new_moon_term, new_moon_terms_of, venus_wave_of, planet_term_of, no_planet_term, planet_terms_of, mean_new_moon_of, node_term_of, dynamical_new_moon_of, new_moon_of}
+use Rattle.book_model.specs.sky.NewMoons.{centuries_of_months, new_moon_angles_of, angle_of_new_moon_term, new_moon_term_of, no_new_moon_term, new_moon_terms_of, venus_term_of, planet_term_of, no_planet_term, planet_terms_of, mean_new_moon_of, node_term_of, dynamical_new_moon_of, new_moon_of}
 use Rattle.book_model.specs.sky.Time.{correction_at, from_dynamical_of}
 use Rattle.book_model.proofs.Estimates.{between_of_within, wider, difference_between, valued_same, sum_between}
 use Rattle.book_model.proofs.FactRuns.{parts}
@@ -40,7 +40,7 @@ unfolding fits
 fitted lo hi everything e = absurd (cc)
 fitted lo hi (between a b) e =
     let t = both (is_at_most (whole lo) a) (is_at_most b (whole hi)) e in
-    record { ends = (at_most_true _ _ t.0, at_most_true _ _ t.1) }
+    record { endpoints = (at_most_true _ _ t.0, at_most_true _ _ t.1) }
 
 by_shallow : (w : World) (lo hi : ℤ) (x : Expression) → fits lo hi (value (shallow w) x) ≡ true → IsBetween lo hi (value w x)
 by_shallow w lo hi x e =
@@ -58,8 +58,8 @@ node_fits : (w : World) → fits (negsuc 0) (pos 1) (value (shallow w) (node_ter
 unfolding fits value node_term_of polynomial_at polynomial_at_to sum product least greatest smaller larger times plus is_at_most fraction_power sine_of_degrees
 node_fits w = refl
 
-venus_fits : (w : World) → fits (negsuc 0) (pos 1) (value (shallow w) (venus_wave_of then)) ≡ true
-unfolding fits value venus_wave_of quadratic_wave_of quadratic_of sum product least greatest smaller larger times plus is_at_most interval_power sine_of_degrees
+venus_fits : (w : World) → fits (negsuc 0) (pos 1) (value (shallow w) (venus_term_of then)) ≡ true
+unfolding fits value venus_term_of quadratic_term_of quadratic_of sum product least greatest smaller larger times plus is_at_most interval_power sine_of_degrees
 venus_fits w = refl
 
 -- ---- sums over the rows of a table
@@ -126,7 +126,7 @@ unfolding value dynamical_new_moon_of new_moon_terms_of planet_terms_of terms_of
 dynamical_between w =
     let m = by_shallow w (pos 0) (pos 30) (mean_new_moon_of then) (mean_fits w) in
     let n = by_shallow w (negsuc 0) (pos 1) (node_term_of then) (node_fits w) in
-    let v = by_shallow w (negsuc 0) (pos 1) (venus_wave_of then) (venus_fits w) in
+    let v = by_shallow w (negsuc 0) (pos 1) (venus_term_of then) (venus_fits w) in
     let t = rows_between w (new_moon_term_of (new_moon_angles_of then)) no_new_moon_term NEW_MOON_TERMS 24
     (λ k. by_shallow w (negsuc 0) (pos 1) _ (moon_row w k)) in
     let p = rows_between w (planet_term_of (negsuc 24723)) no_planet_term PLANET_TERMS 13 (λ k. by_shallow w (negsuc 0) (pos 1) _ (planet_row w k)) in

@@ -12,10 +12,10 @@ use Rattle.moon_core.specs.HigherTerms.{higher_sum_of}
 -- sums of three
 regrouped : (i j k : Interval) → sum (sum i j) k ⊆ sum i (sum j k)
 unfolding sum
-regrouped everything j k = record { ends = tt }
-regrouped (between a b) everything k = record { ends = tt }
-regrouped (between a b) (between c d) everything = record { ends = tt }
-regrouped (between a b) (between c d) (between e f) = record { ends = (ge_of_same (plus_assoc a c e), le_of_same (plus_assoc b d f)) }
+regrouped everything j k = record { endpoints = tt }
+regrouped (between a b) everything k = record { endpoints = tt }
+regrouped (between a b) (between c d) everything = record { endpoints = tt }
+regrouped (between a b) (between c d) (between e f) = record { endpoints = (ge_of_same (plus_assoc a c e), le_of_same (plus_assoc b d f)) }
 
 -- what holds the sum of the constant, the linear term and the higher terms holds the quartic
 pub with_higher : {E : Type 0} (shown : E → Interval) (w : World) (p : Quartic) (x : Expression) (e : E)

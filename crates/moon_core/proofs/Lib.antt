@@ -3,14 +3,14 @@ pub use Rattle.sun_core.proofs.EarlyTests
 pub use Rattle.sun_core.proofs.Measured as SunMeasured
 pub use Rattle.sun_core.proofs.Nested
 pub use Rattle.sun_core.proofs.NewYears
-pub use Rattle.sun_core.proofs.OnCourse as SunOnCourse
-pub use Rattle.sun_core.proofs.Openings as SunOpenings
+pub use Rattle.sun_core.proofs.OnLinearModel as SunOnLinearModel
+pub use Rattle.sun_core.proofs.UndecidedTests as SunUndecidedTests
 pub use Rattle.sun_core.proofs.Scalings
-pub mod OnCourse
+pub mod OnLinearModel
 pub mod WalkSteps
 pub mod TermWidths
 pub mod MomentElements
-pub mod Openings
+pub mod UndecidedTests
 pub mod FirstMoon
 pub mod PhaseRanges
 pub mod Bisections

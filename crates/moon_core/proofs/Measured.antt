@@ -11,7 +11,7 @@ use Rattle.book_model.specs.declared.tables.TheConstants.{HALF}
 use Rattle.book_model.specs.numbers.Bounds.{Bound, unbounded, bounded, Reach, implies, bound_of, limits_at, limits_of, integer_bound, constant_bound, sum_bound, difference_bound, negated_bound, scaled_bound, product_bound, power_bound, maximum_bound, spanned_bound, sine_spans}
 use Rattle.book_model.specs.numbers.Expressions.{Expression, argument, integer, constant, add, subtract, scale, remainder}
 use Rattle.book_model.specs.numbers.Fractions.{fraction_of}
-use Rattle.book_model.specs.numbers.Polynomials.{quadratic_of, quadratic_wave_of}
+use Rattle.book_model.specs.numbers.Polynomials.{quadratic_of, quadratic_term_of}
 use Rattle.book_model.specs.numbers.Relations.{Narrow}
 use Rattle.book_model.specs.programs.Widths.{IsAbout, IsMoment, IsUpTo, table_days, table_from, table_to, IsDated, IsSince}
 use Rattle.book_model.specs.sky.Latitude.{venus_by, flattening_by}
@@ -19,7 +19,7 @@ use Rattle.book_model.specs.sky.Phases.{size_of}
 use Rattle.book_model.specs.sky.Sun.{nutation_of}
 use Rattle.encl_core.proofs.Measuring.{measured, sloped, looser}
 use Rattle.encl_core.proofs.StepWidths.{left_within}
-use Rattle.sun_core.specs.Daily.{in_centuries, has_daily, by_centuries, by_days, daily_wave_of}
+use Rattle.sun_core.specs.Daily.{in_centuries, has_daily, by_centuries, by_days, daily_term_of}
 use Rattle.sun_core.proofs.Measured.{days_of}
 use Rattle.moon_core.specs.Daily.{daily_quartic_of, computed_flattening_of, inequalities_by, longitude_by, millionths_by}
 use Rattle.moon_core.specs.Widths.{days_and, latitude_bound, longitude_bound}
@@ -39,7 +39,7 @@ longitude_reach : implies (bound_of (limits_at 56) (days_and longitude_bound)
     (bounded (neg_ℤ (pos (2 ^ 57))) (pos (2 ^ 57)) (35 * 2 ^ 39) (2 ^ 31)) ≡ true
 unfolding implies bound_of integer_bound constant_bound sum_bound difference_bound scaled_bound product_bound
     power_bound spanned_bound sine_spans
-    computed_flattening_of daily_quartic_of nutation_of quadratic_wave_of quadratic_of daily_wave_of by_days has_daily
+    computed_flattening_of daily_quartic_of nutation_of quadratic_term_of quadratic_of daily_term_of by_days has_daily
     by_centuries in_centuries
 longitude_reach = refl
 
@@ -48,7 +48,7 @@ latitude_reach : implies (bound_of (limits_at 56) (days_and latitude_bound)
     (bounded (neg_ℤ (pos (7 * 2 ^ 32))) (pos (7 * 2 ^ 32)) (5 * 2 ^ 39) (2 ^ 29)) ≡ true
 unfolding implies bound_of integer_bound constant_bound sum_bound difference_bound scaled_bound product_bound
     power_bound spanned_bound sine_spans
-    venus_by flattening_by daily_quartic_of daily_wave_of by_days has_daily by_centuries in_centuries
+    venus_by flattening_by daily_quartic_of daily_term_of by_days has_daily by_centuries in_centuries
 latitude_reach = refl
 
 module _ {E : Type 0} (shown : E → Interval) (n v : ℕ) (y : E) (e : n ≡ 56) where

@@ -55,7 +55,7 @@ IsSought w x = IsBetween sought_from sought_to (value w x)
 half_of_sum : AreHalved sought_from sought_to (sought_from +ℤ sought_from) (sought_to +ℤ sought_to)
 unfolding product least greatest smaller larger times is_at_most
 half_of_sum = record {
-  halved = record { ends = (record { cross = omega (arith, ints) }, record { cross = omega (arith, ints) }) };
+  halved = record { endpoints = (record { cross = omega (arith, ints) }, record { cross = omega (arith, ints) }) };
   low = omega (arith, ints);
   high = omega (arith, ints);
 }
@@ -63,7 +63,7 @@ half_of_sum = record {
 -- a turn of the phase, as the days of the mean month
 days_of_turn : product (between (whole (pos 0)) (whole (pos 360))) (exactly (fraction_of DEGREE_OF_MONTH)) ⊆ between (whole (pos 0)) (whole (pos 30))
 unfolding product least greatest smaller larger times is_at_most
-days_of_turn = record { ends = (record { cross = omega (arith, ints) }, record { cross = omega (arith, ints) }) }
+days_of_turn = record { endpoints = (record { cross = omega (arith, ints) }, record { cross = omega (arith, ints) }) }
 
 past_between : (w : World) (f x p : Expression) → outcome (run w (phase_past_of f x)) ≡ valued p → IsBetween (pos 0) (pos 360) (value w p)
 unfolding phase_past_of

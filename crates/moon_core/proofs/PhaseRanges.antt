@@ -122,7 +122,7 @@ pub scaled_between : (lo hi l h : ℤ) (f : Fraction) (i : Interval) → product
 unfolding product
 scaled_between lo hi l h f everything p q k = tt
 scaled_between lo hi l h f (between a b) p q k = between_of_within l h _
-    (within_trans (product_within {i = between a b} {i' = between (whole lo) (whole hi)} q (le_refl f) (record { ends = k }) (within_refl (exactly f))) p)
+    (within_trans (product_within {i = between a b} {i' = between (whole lo) (whole hi)} q (le_refl f) (record { endpoints = k }) (within_refl (exactly f))) p)
 
 -- the days of a moment after the first new moon, in months: at most so many from the first of them on
 abbrev HaveMonths : (lo l : ℤ) → Type 0
@@ -131,11 +131,11 @@ HaveMonths lo l = product (between (whole (lo -ℤ pos 300)) (whole (TABLE_END +
 
 months_of_days : HaveMonths TABLE_START (negsuc 6194)
 unfolding product least greatest smaller larger times is_at_most
-months_of_days = record { ends = (record { cross = omega (arith, ints) }, record { cross = omega (arith, ints) }) }
+months_of_days = record { endpoints = (record { cross = omega (arith, ints) }, record { cross = omega (arith, ints) }) }
 
 months_of_late_days : HaveMonths LATE_START FIRST_LATE_MONTH
 unfolding product least greatest smaller larger times is_at_most
-months_of_late_days = record { ends = (record { cross = omega (arith, ints) }, record { cross = omega (arith, ints) }) }
+months_of_late_days = record { endpoints = (record { cross = omega (arith, ints) }, record { cross = omega (arith, ints) }) }
 
 -- the months from the first new moon to a moment, by the day from which on it lies
 months_since_between : (w : World) (x m : Expression) (lo l : ℤ) → HaveMonths lo l → IsBetween lo TABLE_END (value w x)
@@ -214,7 +214,7 @@ elongation_between w x p e =
 
 degrees_of_month : product (between (whole (pos 0)) (whole (pos 1))) (exactly (fraction_of TURN)) ⊆ between (whole (pos 0)) (whole (pos 360))
 unfolding product least greatest smaller larger times is_at_most
-degrees_of_month = record { ends = (record { cross = omega (arith, ints) }, record { cross = omega (arith, ints) }) }
+degrees_of_month = record { endpoints = (record { cross = omega (arith, ints) }, record { cross = omega (arith, ints) }) }
 
 rest_between : (w : World) (m r : Expression) → outcome (run w (rest_of_month m)) ≡ valued r → IsBetween (pos 0) (pos 1) (value w r)
 unfolding rest_of_month value
@@ -256,7 +256,7 @@ phase_in_table w x v e = let p = parts w (elongation_of x) _ v e in elongation_i
 
 part_of_month : product (between (whole (pos 0)) (whole (pos 360))) (exactly (fraction_of DEGREE_IN_MONTHS)) ⊆ between (whole (pos 0)) (whole (pos 1))
 unfolding product least greatest smaller larger times is_at_most
-part_of_month = record { ends = (record { cross = omega (arith, ints) }, record { cross = omega (arith, ints) }) }
+part_of_month = record { endpoints = (record { cross = omega (arith, ints) }, record { cross = omega (arith, ints) }) }
 
 -- the number of a moment's new moon, by the day from which on the moment lies
 number_between : (w : World) (x : Expression) (n lo l : ℤ) → HaveMonths lo l → (IsInTable (value w x) → IsBetween lo TABLE_END (value w x))

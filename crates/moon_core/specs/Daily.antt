@@ -1,6 +1,6 @@
 -- The moon's longitude and latitude as they are computed, their linear parts and periodic terms by the days from noon
 -- of 1 January 2000.
-use Rattle.book_model.specs.declared.moon_tables.TheConstants.{ECCENTRICITY_FACTOR, ELONGATION, FLATTENING, JUPITER_WAVE, LATITUDE_ARGUMENT, LATITUDE_WAVE, MILLIONTH, MOON_ANOMALY, MOON_LONGITUDE, SUN_ANOMALY, VENUS_WAVE}
+use Rattle.book_model.specs.declared.moon_tables.TheConstants.{ECCENTRICITY_FACTOR, ELONGATION, FLATTENING, JUPITER_TERM, LATITUDE_ARGUMENT, LATITUDE_TERM, MILLIONTH, MOON_ANOMALY, MOON_LONGITUDE, SUN_ANOMALY, VENUS_TERM}
 use Rattle.book_model.specs.declared.time_tables.TheConstants.{NOON_2000}
 use Rattle.book_model.specs.declared.polynomial.Cubic.{Cubic}
 use Rattle.book_model.specs.declared.polynomial.Quartic.{Quartic}
@@ -10,7 +10,7 @@ use Rattle.book_model.specs.sky.Latitude.{venus_by, flattening_by}
 use Rattle.book_model.specs.sky.Moon.{LunarAngles}
 use Rattle.book_model.specs.numbers.Polynomials.{quadratic_of}
 use Rattle.book_model.specs.sky.Sun.{nutation_of}
-use Rattle.sun_core.specs.Daily.{in_centuries, by_days, daily_angle_of, daily_wave_of}
+use Rattle.sun_core.specs.Daily.{in_centuries, by_days, daily_angle_of, daily_term_of}
 
 -- the higher terms of a quartic of the time in centuries; a fourth power is too large for an enclosure in early years,
 -- and so the cube is scaled and then multiplied
@@ -48,7 +48,7 @@ computed_flattening_of x = scale (fraction_of FLATTENING) (sine
 
 -- what the moon is ahead of its mean longitude, in millionths of a degree, by the sum of the terms
 abbrev pub inequalities_by : (terms x : Expression) → Expression
-inequalities_by t x = add (add (add t (daily_wave_of x VENUS_WAVE)) (daily_wave_of x JUPITER_WAVE))
+inequalities_by t x = add (add (add t (daily_term_of x VENUS_TERM)) (daily_term_of x JUPITER_TERM))
     (computed_flattening_of x)
 
 -- the moon's longitude, not reduced, by what the moon is ahead
@@ -63,6 +63,6 @@ days_from_2000 = subtract (argument 0) (constant (fraction_of NOON_2000))
 -- the latitude in millionths of a degree, by the sum of the terms
 abbrev pub millionths_by : (terms x : Expression) → Expression
 millionths_by t x =
-    add (add (add t (venus_by (daily_angle_of VENUS_WAVE x) (daily_quartic_of LATITUDE_ARGUMENT x)))
+    add (add (add t (venus_by (daily_angle_of VENUS_TERM x) (daily_quartic_of LATITUDE_ARGUMENT x)))
     (flattening_by (daily_quartic_of MOON_LONGITUDE x) (daily_quartic_of MOON_ANOMALY x)))
-    (daily_wave_of x LATITUDE_WAVE)
+    (daily_term_of x LATITUDE_TERM)

@@ -1,7 +1,7 @@
 -- of sun_core, re-exported
 pub use Rattle.sun_core.specs.Daily as SunDaily
 pub mod Angles
-pub mod Courses
+pub mod LinearModels
 pub mod Daily
 pub mod Elements
 pub mod Widths

@@ -7,7 +7,7 @@ ghost use Rattle.book_model.specs.programs.Widths.{IsMoment, Measures};
 ghost use Rattle.book_model.specs.sky.Time.{centuries_of};
 ghost use Rattle.moon_core.specs.Elements.{HoldElements, KeepElements, AreElements, AreElementsOf, AreMeasured};
 ghost use Rattle.std.specs.Prelude.{◌≡◌, ◌≤◌, ◌^◌, ℕ, IfOk, IfErr};
-ghost use Rattle.time_scales.specs.Steps.{IsYearOpenFor};
+ghost use Rattle.time_scales.specs.Steps.{IsYearUndecidedFor};
 
 use crate::higher_terms::{angles_by, higher_terms, quartic_by};
 use book_model::Fail;
@@ -53,7 +53,7 @@ pub fn moon_elements<E: Enclosure>(t: E, trail: &mut Trail) -> Result<MoonElemen
         → AreElementsOf E.shown w x b) }
     ensures measured { (v : ℕ) → E.BITS ≡ 56 → v ≤ 2 ^ 44 → IsMoment v (E.shown t)
         → Measures (AreMeasured E.shown E.BITS v) result }
-    ensures open { IfErr result (IsYearOpenFor (E.shown t)) }
+    ensures open { IfErr result (IsYearUndecidedFor (E.shown t)) }
 {
     let moment = dynamical(t, trail)?;
     Ok(elements_at(moment.sub(E::from_frac(NOON_2000))))

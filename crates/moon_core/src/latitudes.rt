@@ -12,19 +12,19 @@ ghost use Rattle.moon_core.specs.Daily.{days_from_2000, millionths_by};
 ghost use Rattle.moon_core.specs.Elements.{AreElementsOf, AreMeasured, HoldElements};
 ghost use Rattle.moon_core.specs.Widths.{days_and, latitude_bound};
 ghost use Rattle.sun_core.specs.Daily.{in_centuries};
-ghost use Rattle.time_scales.specs.Steps.{IsYearOpenFor};
+ghost use Rattle.time_scales.specs.Steps.{IsYearUndecidedFor};
 ghost use Rattle.encl_core.specs.declared.greatest_widths.TheConstants.{LATITUDE};
 ghost use Rattle.encl_core.specs.GreatestWidths.{greatest_of};
 
 use crate::elements::{MoonElements, moon_elements};
 use book_model::Fail;
 use book_model::moon_tables::{
-    FLATTENING_ALONE, FLATTENING_LESS_ANOMALY, FLATTENING_WITH_ANOMALY, LATITUDE_WAVE, MILLIONTH,
-    VENUS_IN_LATITUDE, VENUS_WAVE,
+    FLATTENING_ALONE, FLATTENING_LESS_ANOMALY, FLATTENING_WITH_ANOMALY, LATITUDE_TERM, MILLIONTH,
+    VENUS_IN_LATITUDE, VENUS_TERM,
 };
 use encl_core::{Enclosure, Trail};
 use periodic_terms::{latitude_terms, sin_deg};
-use sun_core::{sine_wave, wave_angle};
+use sun_core::{sine_periodic_term, term_angle};
 
 /// What Venus adds, by the angle of its periodic term and the argument of latitude, in millionths of a degree.
 #[tactic(auto, unfolding(book_model::specs::sky::Latitude::venus_by))]
@@ -60,11 +60,11 @@ fn millionths<E: Enclosure>(elements: MoonElements<E>) -> E
     let angles = elements.angles;
     latitude_terms(angles)
         .add(venus(
-            wave_angle(&VENUS_WAVE, elements.days),
+            term_angle(&VENUS_TERM, elements.days),
             angles.latitude_argument,
         ))
         .add(flattening(elements.mean_longitude, angles.moon_anomaly))
-        .add(sine_wave(&LATITUDE_WAVE, elements.days))
+        .add(sine_periodic_term(&LATITUDE_TERM, elements.days))
 }
 
 /// The latitude of the moon by the elements of a moment, in degrees.
@@ -86,7 +86,7 @@ pub fn latitude<E: Enclosure>(t: E, trail: &mut Trail) -> Result<E, Fail>
     ensures leads { Follows1 E.shown spec.latitude_of t trail.old.count trail.new.count result }
     ensures measured { Measured1 E.BITS E.shown (2 ^ 44) IsMoment
         (λ v. IsAbout (7 * 2 ^ 32) (greatest_of LATITUDE v)) t result }
-    ensures open { IfErr result (IsYearOpenFor (E.shown t)) }
+    ensures open { IfErr result (IsYearUndecidedFor (E.shown t)) }
 {
     let elements = moon_elements(t, trail)?;
     Ok(latitude_at(elements))

@@ -7,19 +7,19 @@
 //! - `phase`: the longitude less the sun's, which is 0 at a new moon and 180 at a full moon;
 //! - `moon_before`: the last new moon before a moment; `moon_from`: the first at or after it;
 //! - `phase_before`: when the moon was last at a phase; `phase_day`: the day of that;
-//! - `PhaseCourse`: a linear model of the phase over an interval of time, by which `moon_before_by`, `moon_from_by` and
+//! - `PhaseLinearModel`: a linear model of the phase over an interval of time, by which `moon_before_by`, `moon_from_by` and
 //!   `phase_before_by` are the calls above;
 //! - of `sun_core` and `new_moons` what the facts ask of the sun, and the trail with which they begin, re-exported.
 #![tactic(auto)]
 
 mod angles;
-mod courses;
 mod elements;
 mod higher_terms;
 mod latitudes;
+mod linear_models;
 mod longitude;
 mod numbers;
-mod phase_courses;
+mod phase_linear_models;
 mod phases;
 mod quarters;
 mod walks;
@@ -29,11 +29,11 @@ pub use latitudes::{latitude, latitude_again};
 pub use longitude::{longitude_at, moon};
 pub use new_moons::trail_with_first_moon;
 pub use periodic_terms::MeanAngles;
-pub use phase_courses::PhaseCourse;
+pub use phase_linear_models::PhaseLinearModel;
 pub use phases::phase;
 pub use quarters::{phase_before, phase_before_by, phase_day};
 pub use sun_core::{
-    SunCourse, estimate, noon, paris_midnight, sidereal_sun, sidereal_sun_by, sun, sun_by,
+    SunLinearModel, estimate, noon, paris_midnight, sidereal_sun, sidereal_sun_by, sun, sun_by,
     sun_from_by,
 };
 pub use walks::{moon_before, moon_before_by, moon_from, moon_from_by};

@@ -14,16 +14,16 @@ ghost use Rattle.moon_core.specs.Daily.{daily_quartic_of, days_from_2000, comput
 ghost use Rattle.moon_core.specs.Elements.{AreMeasured, HoldElements, reduced_longitude_of};
 ghost use Rattle.moon_core.specs.Widths.{days_and, longitude_bound};
 ghost use Rattle.sun_core.specs.Daily.{in_centuries};
-ghost use Rattle.time_scales.specs.Steps.{IsYearOpenFor};
+ghost use Rattle.time_scales.specs.Steps.{IsYearUndecidedFor};
 ghost use Rattle.encl_core.specs.declared.greatest_widths.TheConstants.{MOON};
 ghost use Rattle.encl_core.specs.GreatestWidths.{greatest_of};
 
 use crate::elements::{MoonElements, moon_elements};
-use book_model::moon_tables::{FLATTENING, JUPITER_WAVE, MILLIONTH, VENUS_WAVE};
+use book_model::moon_tables::{FLATTENING, JUPITER_TERM, MILLIONTH, VENUS_TERM};
 use book_model::{Fail, Site};
 use encl_core::{Enclosure, Trail, wrap_step};
 use periodic_terms::{longitude_terms, sin_deg};
-use sun_core::{nutation, sine_wave};
+use sun_core::{nutation, sine_periodic_term};
 
 /// What the flattening of the earth adds, by the mean longitude and the argument of latitude, in millionths of a degree.
 #[tactic(auto, unfolding(book_model::specs::sky::Moon::flattening_of, crate::specs::Daily::computed_flattening_of))]
@@ -50,8 +50,8 @@ fn inequalities<E: Enclosure>(elements: MoonElements<E>) -> E
         (inequalities_by (argument 1) days_from_2000) result }
 {
     longitude_terms(elements.angles)
-        .add(sine_wave(&VENUS_WAVE, elements.days))
-        .add(sine_wave(&JUPITER_WAVE, elements.days))
+        .add(sine_periodic_term(&VENUS_TERM, elements.days))
+        .add(sine_periodic_term(&JUPITER_TERM, elements.days))
         .add(flattening(elements.mean_longitude, elements.angles.latitude_argument))
 }
 
@@ -70,7 +70,7 @@ fn longitude<E: Enclosure>(elements: MoonElements<E>) -> E
 }
 
 /// The apparent longitude of the moon by the elements of a moment, in degrees from 0 up to 360: one test, at `moon-wrap`.
-#[tactic(auto, using(crate::proofs::Openings::opening), unfolding(crate::specs::Elements::reduced_longitude_of))]
+#[tactic(auto, using(crate::proofs::UndecidedTests::opening), unfolding(crate::specs::Elements::reduced_longitude_of))]
 pub fn longitude_at<E: Enclosure>(elements: MoonElements<E>, trail: &mut Trail) -> Result<E, Fail>
     ensures leads { (w : World) (x : Expression) → HoldElements E.shown w x elements
         → Leads w (Within E.shown w) (reduced_longitude_of (in_centuries x)) trail.old.count
@@ -81,7 +81,7 @@ pub fn longitude_at<E: Enclosure>(elements: MoonElements<E>, trail: &mut Trail) 
     ensures wide { (v : ℕ) → E.BITS ≡ 56 → v ≤ 2 ^ 40
         → AreMeasured E.shown E.BITS v elements
         → IfOk result (λ l. IsUpTo 360 (greatest_of MOON v) (E.shown l)) }
-    ensures elsewhere { (i : Interval) → IfErr result (IsYearOpenFor i) }
+    ensures elsewhere { (i : Interval) → IfErr result (IsYearUndecidedFor i) }
 {
     wrap_step(longitude(elements), 360, Site::MoonWrap, trail)
 }
@@ -97,7 +97,7 @@ pub fn moon<E: Enclosure>(t: E, trail: &mut Trail) -> Result<E, Fail>
     ensures wide { Answers1 E.BITS E.shown (2 ^ 40) IsMoment
         (λ v. IsUpTo 360 (greatest_of MOON v)) t
         result }
-    ensures open { IfErr result (IsYearOpenFor (E.shown t)) }
+    ensures open { IfErr result (IsYearUndecidedFor (E.shown t)) }
 {
     let elements = moon_elements(t, trail)?;
     longitude_at(elements, trail)

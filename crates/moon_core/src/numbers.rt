@@ -7,18 +7,18 @@ ghost use Rattle.book_model.specs.programs.Widths.{IsAbout, IsClose, IsMoment, I
 ghost use Rattle.std.specs.Prelude.{◌≡◌, ℕ, ◌≤◌, ◌+◌, ◌*◌, ◌/◌, ◌^◌, pos, negsuc, ◌≤ℤ◌, Ok, IfOk, IfErr};
 ghost use Rattle.book_model.specs.declared.new_moon_tables.TheConstants.{FIRST_LATE_MOON as first_late, LAST_TABLE_MOON as last_moon, LATE_START};
 ghost use Rattle.book_model.specs.sky.Phases as spec;
-ghost use Rattle.moon_core.specs.Courses.{number_by, number_of_phase as number_of_phase_of};
+ghost use Rattle.moon_core.specs.LinearModels.{number_by, number_of_phase as number_of_phase_of};
 ghost use Rattle.encl_core.specs.declared.greatest_widths.TheConstants.{PHASE};
 ghost use Rattle.encl_core.specs.GreatestWidths.{greatest_of};
 
-use crate::phase_courses::{PhaseCourse, phase_by};
+use crate::phase_linear_models::{PhaseLinearModel, phase_by};
 use crate::phases::{months_since, nearest_moon, phase};
 use book_model::Fail;
 use book_model::new_moon_tables::DEGREE_IN_MONTHS;
 use encl_core::{Enclosure, Trail};
 
 /// The whole number that is nearest to so many months less those of a phase: one test.
-#[tactic(auto, unfolding(crate::specs::Courses::number_of_phase))]
+#[tactic(auto, unfolding(crate::specs::LinearModels::number_of_phase))]
 fn number_of_phase<E: Enclosure>(months: E, degrees: E, trail: &mut Trail) -> Result<i64, Fail>
     ensures leads { Decides2 E.shown number_of_phase_of months degrees trail.old.count
         trail.new.count result }
@@ -30,7 +30,7 @@ fn number_of_phase<E: Enclosure>(months: E, degrees: E, trail: &mut Trail) -> Re
 }
 
 /// The number by the months since the new moon of number 0 and by the phase at the moment itself.
-#[tactic(auto, using(book_model::proofs::Leads::leading), unfolding(crate::specs::Courses::number_by))]
+#[tactic(auto, using(book_model::proofs::Leads::leading), unfolding(crate::specs::LinearModels::number_by))]
 fn number_at<E: Enclosure>(months: E, t: E, trail: &mut Trail) -> Result<i64, Fail>
     ensures leads { Decides2 E.shown number_by months t trail.old.count trail.new.count result }
     ensures close { (v : ℕ) → E.BITS ≡ 56 → v ≤ 3 * 2 ^ 37
@@ -43,7 +43,7 @@ fn number_at<E: Enclosure>(months: E, t: E, trail: &mut Trail) -> Result<i64, Fa
 
 /// The same by a linear model. Where it answers it has made the tests of `number_at`; a failure says nothing.
 fn number_near<E: Enclosure>(
-    course: &PhaseCourse<E>,
+    linear_model: &PhaseLinearModel<E>,
     months: E,
     t: E,
     trail: &mut Trail,
@@ -51,13 +51,13 @@ fn number_near<E: Enclosure>(
     ensures leads { IfOk result (λ n. Decides2 E.shown number_by months t trail.old.count
         trail.new.count (Ok n)) }
 {
-    let degrees = phase_by(course, t, trail)?;
+    let degrees = phase_by(linear_model, t, trail)?;
     number_of_phase(months, degrees, trail)
 }
 
 /// The same, as a try: where it fails, no test has been made.
 fn number_tried<E: Enclosure>(
-    course: &PhaseCourse<E>,
+    linear_model: &PhaseLinearModel<E>,
     months: E,
     t: E,
     trail: &mut Trail,
@@ -70,14 +70,14 @@ fn number_tried<E: Enclosure>(
         |inner: &mut Trail| -> Result<i64, Fail>
             ensures { IfOk result (λ n. Decides2 E.shown number_by months t inner.old.count
                 inner.new.count (Ok n)) }
-        { number_near(course, months, t, inner) },
+        { number_near(linear_model, months, t, inner) },
     )
 }
 
 /// The number by the months since the new moon of number 0: by a linear model where that decides it, and else by the phase at the
 /// moment.
 fn number_after<E: Enclosure>(
-    course: &PhaseCourse<E>,
+    linear_model: &PhaseLinearModel<E>,
     months: E,
     t: E,
     trail: &mut Trail,
@@ -87,7 +87,7 @@ fn number_after<E: Enclosure>(
         → IsAbout (2 ^ 54) (v / 29 + 2 ^ 26) (E.shown months) → IsMoment v (E.shown t)
         → IfErr result IsClose }
 {
-    match number_tried(course, months, t, trail) {
+    match number_tried(linear_model, months, t, trail) {
         Ok(number) => Ok(number),
         Err(_) => number_at(months, t, trail),
     }
@@ -95,9 +95,9 @@ fn number_after<E: Enclosure>(
 
 /// The number of the last new moon before a moment, or of one next to it, which lies within 40,000 of 0: twelve tests at most
 /// (`number_few`).
-#[tactic(auto, using(book_model::proofs::Leads::leading), unfolding(book_model::specs::sky::Phases::number_of_moon, crate::specs::Courses::number_by, crate::specs::Courses::number_of_phase))]
+#[tactic(auto, using(book_model::proofs::Leads::leading), unfolding(book_model::specs::sky::Phases::number_of_moon, crate::specs::LinearModels::number_by, crate::specs::LinearModels::number_of_phase))]
 pub(crate) fn number<E: Enclosure>(
-    course: &PhaseCourse<E>,
+    linear_model: &PhaseLinearModel<E>,
     t: E,
     trail: &mut Trail,
 ) -> Result<i64, Fail>
@@ -110,5 +110,5 @@ pub(crate) fn number<E: Enclosure>(
     ensures close { Closes1 E.BITS E.shown (3 * 2 ^ 37) IsMoment t result }
 {
     let months = months_since(0, t, trail)?;
-    number_after(course, months, t, trail)
+    number_after(linear_model, months, t, trail)
 }

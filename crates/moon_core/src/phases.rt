@@ -6,7 +6,7 @@ ghost use Rattle.book_model.specs.Interval.{Interval};
 ghost use Rattle.book_model.specs.declared.new_moon_tables.TheConstants.{LAST_TABLE_MOON as last_moon};
 ghost use Rattle.book_model.specs.sky.Phases as spec;
 ghost use Rattle.book_model.specs.numbers.Ranges.{IsInTable};
-ghost use Rattle.time_scales.specs.Steps.{IsYearOpenFor, IsEarlyYearFor};
+ghost use Rattle.time_scales.specs.Steps.{IsYearUndecidedFor, IsEarlyYearFor};
 ghost use Rattle.encl_core.specs.declared.greatest_widths.TheConstants.{PHASE};
 ghost use Rattle.encl_core.specs.GreatestWidths.{greatest_of};
 
@@ -19,14 +19,14 @@ use new_moons::new_moon;
 use sun_core::sun;
 
 /// An angle, reduced to 0 up to 360 degrees, as one test.
-#[tactic(auto, using(book_model::proofs::Leads::leading, crate::proofs::Openings::opening), unfolding(book_model::specs::sky::Phases::within_turn_of))]
+#[tactic(auto, using(book_model::proofs::Leads::leading, crate::proofs::UndecidedTests::opening), unfolding(book_model::specs::sky::Phases::within_turn_of))]
 pub(crate) fn within_turn<E: Enclosure>(angle: E, trail: &mut Trail) -> Result<E, Fail>
     ensures leads { Follows1 E.shown spec.within_turn_of angle trail.old.count trail.new.count
         result }
     ensures measured { Measured1 E.BITS E.shown (2 ^ 44) (IsAbout (2 ^ 90)) (IsUpTo 360) angle
         result }
     ensures wide { Answers1 E.BITS E.shown (2 ^ 46) (IsAbout (2 ^ 90)) (IsUpTo 360) angle result }
-    ensures elsewhere { (i : Interval) → IfErr result (IsYearOpenFor i) }
+    ensures elsewhere { (i : Interval) → IfErr result (IsYearUndecidedFor i) }
 {
     wrap_step(angle, 360, Site::PhaseWrap, trail)
 }
@@ -40,7 +40,7 @@ fn elongation<E: Enclosure>(t: E, trail: &mut Trail) -> Result<E, Fail>
         (λ v. IsUpTo 360 (22 * v + 17 * 2 ^ 32)) t result }
     ensures wide { Answers1 E.BITS E.shown (2 ^ 40) IsMoment
         (λ v. IsUpTo 360 (22 * v + 17 * 2 ^ 32)) t result }
-    ensures open { IfErr result (IsYearOpenFor (E.shown t)) }
+    ensures open { IfErr result (IsYearUndecidedFor (E.shown t)) }
     ensures in_table { IfOk result (λ p. IsInTable (E.shown t)) }
 {
     let there = moon(t, trail)?;

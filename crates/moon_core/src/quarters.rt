@@ -13,7 +13,7 @@ ghost use Rattle.encl_core.specs.GreatestWidths.{greatest_of};
 ghost use Rattle.moon_core.specs.PhaseDays.{IsPhaseDay};
 ghost use Rattle.time_scales.specs.Steps.{IsEarlyYearFor, IsNoEarlyYear};
 
-use crate::phase_courses::{PhaseCourse, phase_by};
+use crate::phase_linear_models::{PhaseLinearModel, phase_by};
 use crate::phases;
 use book_model::new_moon_tables::DEGREE_OF_MONTH;
 use book_model::{Fail, Site};
@@ -24,7 +24,7 @@ use sun_core::{Angular, days_over, invert_angular};
 const DAYS_ABOUT: i64 = 2;
 
 /// The phase of the moon, as an angle that grows with time.
-impl<E: Enclosure> Angular<E> for PhaseCourse<E> {
+impl<E: Enclosure> Angular<E> for PhaseLinearModel<E> {
     ghost angle_of = { spec.phase_of };
 
     ghost spread = { λ v. greatest_of PHASE v };
@@ -37,9 +37,9 @@ impl<E: Enclosure> Angular<E> for PhaseCourse<E> {
         phase_by(self, x, trail)
     }
 
-    fn over(&self, stretch: E, trail: &Trail) -> Option<Self> {
-        let days = days_over(stretch, trail)?;
-        Some(PhaseCourse::<E>::of(days))
+    fn over(&self, interval_of_days: E, trail: &Trail) -> Option<Self> {
+        let days = days_over(interval_of_days, trail)?;
+        Some(PhaseLinearModel::<E>::of(days))
     }
 
     fn time_of(&self, degrees: E) -> E {
@@ -48,7 +48,7 @@ impl<E: Enclosure> Angular<E> for PhaseCourse<E> {
 }
 
 /// An angle, reduced to 0 up to 360 degrees: one test, at `step-wrap`.
-#[tactic(auto, using(book_model::proofs::Leads::leading, crate::proofs::Openings::opening), unfolding(book_model::specs::sky::Sun::reduced_of))]
+#[tactic(auto, using(book_model::proofs::Leads::leading, crate::proofs::UndecidedTests::opening), unfolding(book_model::specs::sky::Sun::reduced_of))]
 fn reduced<E: Enclosure>(angle: E, trail: &mut Trail) -> Result<E, Fail>
     ensures leads { Follows1 E.shown reduced_of angle trail.old.count trail.new.count result }
     ensures measured { Measured1 E.BITS E.shown (2 ^ 44) (IsAbout (2 ^ 90)) (IsUpTo 360) angle
@@ -83,7 +83,7 @@ fn phase_back<E: Enclosure>(angle: E, t: E) -> E
 /// When the moon is at a phase about a moment, but not after the moment `t`.
 #[tactic(auto, unfolding(book_model::specs::sky::Phases::phase_about_of))]
 fn phase_about<E: Enclosure>(
-    course: &PhaseCourse<E>,
+    linear_model: &PhaseLinearModel<E>,
     phase: E,
     t: E,
     about: E,
@@ -96,8 +96,8 @@ fn phase_about<E: Enclosure>(
         → Measures (λ x. IsMoment (v + 2 ^ 24) (E.shown x)) result }
 {
     let days = E::from_int(DAYS_ABOUT);
-    invert_angular::<E, PhaseCourse<E>>(
-        course,
+    invert_angular::<E, PhaseLinearModel<E>>(
+        linear_model,
         phase,
         about.sub(days),
         t.min(about.add(days)),
@@ -108,7 +108,7 @@ fn phase_about<E: Enclosure>(
 /// `phase_before`, where the linear models of the moon and the sun are known, over the usual days or over those about the moment.
 #[tactic(auto, using(book_model::proofs::Leads::leading), unfolding(book_model::specs::sky::Phases::phase_before_of))]
 pub fn phase_before_by<E: Enclosure>(
-    course: &PhaseCourse<E>,
+    linear_model: &PhaseLinearModel<E>,
     p: E,
     t: E,
     trail: &mut Trail,
@@ -119,7 +119,7 @@ pub fn phase_before_by<E: Enclosure>(
     ensures early { trail.old.count ≡ 0 → IfErr result (IsEarlyYearFor (E.shown t)) }
 {
     let past = phase_past(p, t, trail)?;
-    phase_about(course, p, t, phase_back(past, t), trail)
+    phase_about(linear_model, p, t, phase_back(past, t), trail)
 }
 
 /// When the moon was last at a phase, in degrees, at or before a moment of universal time: by bisection about the moment to which
@@ -132,8 +132,8 @@ pub fn phase_before<E: Enclosure>(p: E, t: E, trail: &mut Trail) -> Result<E, Fa
         (λ v. IsMoment (3 * v + 2 ^ 34)) p t result }
     ensures early { trail.old.count ≡ 0 → IfErr result (IsEarlyYearFor (E.shown t)) }
 {
-    let course = PhaseCourse::<E>::usual();
-    phase_before_by(&course, p, t, trail)
+    let linear_model = PhaseLinearModel::<E>::usual();
+    phase_before_by(&linear_model, p, t, trail)
 }
 
 // One call, which the four phases and the first visibility of the crescent share.
@@ -142,7 +142,7 @@ pub fn phase_before<E: Enclosure>(p: E, t: E, trail: &mut Trail) -> Result<E, Fa
 /// first and third tests, of the year of the day itself, are never undecided.
 #[tactic(auto, using(book_model::proofs::Leads::leading), unfolding(book_model::specs::sky::Phases::phase_day_of))]
 pub fn phase_day<E: Enclosure>(
-    course: &PhaseCourse<E>,
+    linear_model: &PhaseLinearModel<E>,
     phase: i64,
     day: i64,
     trail: &mut Trail,
@@ -153,6 +153,6 @@ pub fn phase_day<E: Enclosure>(
     ensures early { trail.old.count ≡ 0 → 36 ≤ E.BITS → E.BITS ≤ 56 → IsValueDay day
         → IfErr result IsNoEarlyYear }
 {
-    let moment = phase_before_by(course, E::from_int(phase), E::from_int(day), trail)?;
+    let moment = phase_before_by(linear_model, E::from_int(phase), E::from_int(day), trail)?;
     floor_step(moment, Site::DayFloor, trail)
 }

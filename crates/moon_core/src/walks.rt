@@ -9,7 +9,7 @@ ghost use Rattle.encl_core.specs.GreatestWidths.{greatest_of};
 ghost use Rattle.book_model.specs.declared.time_tables.TheConstants.{RECENT_START, TABLE_END};
 
 use crate::numbers::number;
-use crate::phase_courses::PhaseCourse;
+use crate::phase_linear_models::PhaseLinearModel;
 use book_model::{Fail, Site};
 use encl_core::{Enclosure, Trail, less_step};
 use new_moons::new_moon;
@@ -71,7 +71,7 @@ fn moon_preceding<E: Enclosure>(n: i64, trail: &mut Trail) -> Result<E, Fail>
 /// `moon_before`, where the linear models of the moon and the sun are known over the usual days.
 #[tactic(auto, using(book_model::proofs::Leads::leading), unfolding(book_model::specs::sky::Phases::moon_before_of))]
 pub fn moon_before_by<E: Enclosure>(
-    course: &PhaseCourse<E>,
+    linear_model: &PhaseLinearModel<E>,
     t: E,
     trail: &mut Trail,
 ) -> Result<E, Fail>
@@ -81,7 +81,7 @@ pub fn moon_before_by<E: Enclosure>(
     ensures recent { Measured1 E.BITS E.shown (3 * 2 ^ 37) (IsSince LATE_START)
         (λ v. IsFrom RECENT_START (TABLE_END +ℤ pos 1) (greatest_of NEW_MOON 0)) t result }
 {
-    let about = number(course, t, trail)?;
+    let about = number(linear_model, t, trail)?;
     let next = walk(NUMBERS_TRIED, t, about - 1, trail)?;
     moon_preceding::<E>(next, trail)
 }
@@ -97,14 +97,14 @@ pub fn moon_before<E: Enclosure>(t: E, trail: &mut Trail) -> Result<E, Fail>
     ensures recent { Measured1 E.BITS E.shown (3 * 2 ^ 37) (IsSince LATE_START)
         (λ v. IsFrom RECENT_START (TABLE_END +ℤ pos 1) (greatest_of NEW_MOON 0)) t result }
 {
-    let course = PhaseCourse::<E>::usual();
-    moon_before_by(&course, t, trail)
+    let linear_model = PhaseLinearModel::<E>::usual();
+    moon_before_by(&linear_model, t, trail)
 }
 
 /// `moon_from`, where the linear models of the moon and the sun are known over the usual days.
 #[tactic(auto, using(book_model::proofs::Leads::leading), unfolding(book_model::specs::sky::Phases::moon_from_of))]
 pub fn moon_from_by<E: Enclosure>(
-    course: &PhaseCourse<E>,
+    linear_model: &PhaseLinearModel<E>,
     t: E,
     trail: &mut Trail,
 ) -> Result<E, Fail>
@@ -114,7 +114,7 @@ pub fn moon_from_by<E: Enclosure>(
     ensures recent { Measured1 E.BITS E.shown (3 * 2 ^ 37) (IsSince LATE_START)
         (λ v. IsFrom RECENT_START (TABLE_END +ℤ pos 1) (greatest_of NEW_MOON 0)) t result }
 {
-    let about = number(course, t, trail)?;
+    let about = number(linear_model, t, trail)?;
     let next = walk(NUMBERS_TRIED, t, about, trail)?;
     new_moon::<E>(next, trail)
 }
@@ -130,6 +130,6 @@ pub fn moon_from<E: Enclosure>(t: E, trail: &mut Trail) -> Result<E, Fail>
     ensures recent { Measured1 E.BITS E.shown (3 * 2 ^ 37) (IsSince LATE_START)
         (λ v. IsFrom RECENT_START (TABLE_END +ℤ pos 1) (greatest_of NEW_MOON 0)) t result }
 {
-    let course = PhaseCourse::<E>::usual();
-    moon_from_by(&course, t, trail)
+    let linear_model = PhaseLinearModel::<E>::usual();
+    moon_from_by(&linear_model, t, trail)
 }

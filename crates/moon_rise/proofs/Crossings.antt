@@ -28,13 +28,13 @@ unfolding run outcome
 answered_is a b e = cc
 
 -- it isn't so at the first of two moments and is so at the second
-record IsStretch (holds : ℕ → Program Bool) (low high : ℕ) : Type 0 where
+record IsIntervalOfDays (holds : ℕ → Program Bool) (low high : ℕ) : Type 0 where
   before : Comes (holds low) false
   after : Comes (holds high) true
 
 -- a sixteenth of a quarter of an hour of which that holds, within an interval
 record IsHalved (holds : ℕ → Program Bool) (first last low : ℕ) : Type 0 where
-  stretch : IsStretch holds low (suc low)
+  interval_of_days : IsIntervalOfDays holds low (suc low)
   above : first ≤ low
   below : low < last
 
@@ -42,14 +42,14 @@ middle_is : (low half : ℕ) → middle_of low (low + 2 * half) ≡ low + half
 middle_is low half = omega arith
 
 -- halving
-halved : (more : ℕ) (holds : ℕ → Program Bool) (low high i : ℕ) → high ≡ low + 2 ^ more → Comes (halved_of more holds low high) i → IsStretch holds low high
+halved : (more : ℕ) (holds : ℕ → Program Bool) (low high i : ℕ) → high ≡ low + 2 ^ more → Comes (halved_of more holds low high) i → IsIntervalOfDays holds low high
     → IsHalved holds low high i
 unfolding halved_of
 halved zero holds low high i e h s =
     let is : low ≡ i = answered_is low i h in
     let one : high ≡ suc low = omega (arith, e) in
-    let t : IsStretch holds low (suc low) = rw one at s in
-    record { stretch = rw is at t; above = omega (arith, is); below = omega (arith, is, one) }
+    let t : IsIntervalOfDays holds low (suc low) = rw one at s in
+    record { interval_of_days = rw is at t; above = omega (arith, is); below = omega (arith, is, one) }
 halved (suc more) holds low high i e h s =
     let p = parts (at_depth 40) (holds (middle_of low high)) _ i h in
     let m : middle_of low high ≡ low + 2 ^ more = let d : 2 ^ suc more ≡ 2 * 2 ^ more = omega arith in rw (e, d) (middle_is low (2 ^ more)) in
@@ -58,15 +58,15 @@ halved (suc more) holds low high i e h s =
   where
     by_test : (now : Bool) (middle : ℕ) → middle ≡ low + 2 ^ more → high ≡ middle + 2 ^ more → Comes (holds middle) now
         → Comes (if now then halved_of more holds low middle else halved_of more holds middle high) i
-        → ((high' : ℕ) → high' ≡ low + 2 ^ more → Comes (halved_of more holds low high') i → IsStretch holds low high' → IsHalved holds low high' i)
-        → ((low' : ℕ) → high ≡ low' + 2 ^ more → Comes (halved_of more holds low' high) i → IsStretch holds low' high → IsHalved holds low' high i)
+        → ((high' : ℕ) → high' ≡ low + 2 ^ more → Comes (halved_of more holds low high') i → IsIntervalOfDays holds low high' → IsHalved holds low high' i)
+        → ((low' : ℕ) → high ≡ low' + 2 ^ more → Comes (halved_of more holds low' high) i → IsIntervalOfDays holds low' high → IsHalved holds low' high i)
         → IsHalved holds low high i
     by_test true middle m f a t first second =
         let r = first middle m t (record { before = s.before; after = a }) in
-        record { stretch = r.stretch; above = r.above; below = omega (arith, r.below, f) }
+        record { interval_of_days = r.interval_of_days; above = r.above; below = omega (arith, r.below, f) }
     by_test false middle m f a t first second =
         let r = second middle f t (record { before = a; after = s.after }) in
-        record { stretch = r.stretch; above = omega (arith, r.above, m); below = r.below }
+        record { interval_of_days = r.interval_of_days; above = omega (arith, r.above, m); below = r.below }
 
 from_minute : (k i : ℕ) → 16 * k ≤ i → pos (30 * i) ≤ℤ (pos 32 *ℤ minutes_at k i)
 from_minute k i h = let q = (30 * (i - 16 * k) + 31) / 32 in omega (arith, ints, h)
@@ -75,7 +75,7 @@ to_minute : (k i : ℕ) → 16 * k ≤ i → (pos 32 *ℤ minutes_at k i) ≤ℤ
 to_minute k i h = let q = (30 * (i - 16 * k) + 31) / 32 in omega (arith, ints, h)
 
 -- the minute in a quarter of an hour in which it becomes so
-minute_found : (holds : ℕ → Program Bool) (k : ℕ) (v : ℤ) → k < 96 → Comes (minute_in_of holds k) v → IsStretch holds (16 * k) (16 * k + 16)
+minute_found : (holds : ℕ → Program Bool) (k : ℕ) (v : ℤ) → k < 96 → Comes (minute_in_of holds k) v → IsIntervalOfDays holds (16 * k) (16 * k + 16)
     → HasCrossing holds false v
 unfolding minute_in_of
 minute_found holds k v d e s =
@@ -85,8 +85,8 @@ minute_found holds k v d e s =
     record {
       moment = p.part;
       of_day = omega (arith, d, h.below);
-      at_first = always (holds p.part) false h.stretch.before;
-      at_last = always (holds (suc p.part)) true h.stretch.after;
+      at_first = always (holds p.part) false h.interval_of_days.before;
+      at_last = always (holds (suc p.part)) true h.interval_of_days.after;
       from = subst (λ z. pos (30 * p.part) ≤ℤ (pos 32 *ℤ z)) is (from_minute k p.part h.above);
       to = subst (λ z. (pos 32 *ℤ z) ≤ℤ pos (30 * suc p.part + 1)) is (to_minute k p.part h.above);
     }

@@ -24,7 +24,7 @@ use Rattle.book_model.specs.programs.Widths.{IsWithin, IsAbout, IsClose}
 use Rattle.book_model.specs.sky.Altitude.{altitude_sine_of, north_of, towards_of, east_of}
 use Rattle.book_model.specs.sky.Names.{place_number, location_of}
 use Rattle.book_model.proofs.NameLemmas.{column_passes, place_row}
-use Rattle.encl_core.specs.Steps.{IsOpenLess}
+use Rattle.encl_core.specs.Steps.{IsUndecidedLess}
 use Rattle.encl_core.proofs.Measuring.{measured, sloped, looser}
 use Rattle.rise_set.specs.Altitudes.{IsTilt}
 use Rattle.rise_set.specs.Widths.{IsDepression, IsNarrowLocation}
@@ -96,17 +96,17 @@ not_greater a b h l (inr u) = middle (record {
   };
 })
 
-by_ends : (a b : Fraction) → IsSkySine (between a b) → ((at_32 (pos (2 ^ 31)) ≤F a) ⊎ (a ≤F at_32 (pos (2 ^ 31)))) → IsOneOf (between a b)
+by_endpoints : (a b : Fraction) → IsSkySine (between a b) → ((at_32 (pos (2 ^ 31)) ≤F a) ⊎ (a ≤F at_32 (pos (2 ^ 31)))) → IsOneOf (between a b)
 unfolding IsNarrow
-by_ends a b h (inl l) = greater (record {
+by_endpoints a b h (inl l) = greater (record {
   kept = record { ordered = h.kept.ordered; above = l; below = h.kept.below; close = h.kept.close };
 })
-by_ends a b h (inr l) = not_greater a b h l (le_total b (at_32 (neg_ℤ (pos (2 ^ 31)))))
+by_endpoints a b h (inr l) = not_greater a b h l (le_total b (at_32 (neg_ℤ (pos (2 ^ 31)))))
 
 cases : (i : Interval) → IsSkySine i → IsOneOf i
 unfolding IsNarrow
 cases everything h = absurd h.kept
-cases (between a b) h = by_ends a b h (le_total (at_32 (pos (2 ^ 31))) a)
+cases (between a b) h = by_endpoints a b h (le_total (at_32 (pos (2 ^ 31))) a)
 
 -- ---- the altitude
 abbrev middle_bounds : ℕ → Bound
@@ -261,7 +261,7 @@ far_below (between a b) (between c d) h k o = by_test (is_at_most c b) (is_at_mo
         absurd (omega (arith, ints, z))
 
 pub up_closes : (s : Site) (i j : Interval) (r : Result Bool Fail) → IsWithin (pos 0) (pos 0) 0 i → IsHeight j → (IsAbout (2 ^ 90) (2 ^ 41) j → IfErr r IsClose)
-    → IfErr r (IsOpenLess i j s) → IfErr r IsClose
+    → IfErr r (IsUndecidedLess i j s) → IfErr r IsClose
 up_closes s i j (Ok t) z h k o = tt
 up_closes s i j (Err (Void v)) z h k o = absurd o
 up_closes s i j (Err (undecided_at u)) z (near n) k o = k (near_about j n)

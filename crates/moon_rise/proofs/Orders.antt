@@ -29,7 +29,7 @@ use Rattle.book_model.specs.sky.Moonrise.{equator_radius, parallax_of, part_of_d
 product_in : (a b f : Fraction) (j : Interval) → IsMember (times a f) j → IsMember (times b f) j → product (between a b) (exactly f) ⊆ j
 unfolding product
 product_in a b f everything l u = within_everything _
-product_in a b f (between c d) l u = record { ends = (least_is c _ _ _ _ l.0 l.0 u.0 u.0, greatest_is d _ _ _ _ l.1 l.1 u.1 u.1) }
+product_in a b f (between c d) l u = record { endpoints = (least_is c _ _ _ _ l.0 l.0 u.0 u.0, greatest_is d _ _ _ _ l.1 l.1 u.1 u.1) }
 
 -- ---- a thousandth of a sum
 mean_is : times (whole mean_distance) metre ≈ mean_kilometres
@@ -65,7 +65,7 @@ exact_product : (a b : Fraction) → product (exactly a) (exactly b) ⊆ exactly
 exact_product a b = product_in a a b (exactly (times a b)) (le_refl _, le_refl _) (le_refl _, le_refl _)
 
 exact_same : (a b : Fraction) → a ≈ b → exactly a ⊆ exactly b
-exact_same a b e = record { ends = (ge_of_same e, le_of_same e) }
+exact_same a b e = record { endpoints = (ge_of_same e, le_of_same e) }
 
 exact_sum : (a b : Fraction) → sum (exactly a) (exactly b) ≡ exactly (plus a b)
 unfolding sum
@@ -176,7 +176,7 @@ corners_in : (l u r s : Fraction) (j : Interval) → IsMember (times l r) j → 
     → product (between l u) (between r s) ⊆ j
 unfolding product
 corners_in l u r s everything p q v w = within_everything _
-corners_in l u r s (between e f) p q v w = record { ends = (least_is e _ _ _ _ p.0 q.0 v.0 w.0, greatest_is f _ _ _ _ p.1 q.1 v.1 w.1) }
+corners_in l u r s (between e f) p q v w = record { endpoints = (least_is e _ _ _ _ p.0 q.0 v.0 w.0, greatest_is f _ _ _ _ p.1 q.1 v.1 w.1) }
 
 -- a product with one number, by its endpoints
 abbrev low_of : (a b f : Fraction) → Fraction
@@ -235,9 +235,9 @@ module _ (a b c d : Fraction) (p : a ≤F b) (q : c ≤F d) where
       (quotient_holds (between a b) low high x (times y kilometre_in_radii) low_high e h (scaled_member y k.0 k.1))
 
   -- the endpoints of the scaled number over a number of the distance
-  ends_held : (y : Fraction) → excludes_zero low high ≡ true → IsMember y (between c d)
+  endpoints_held : (y : Fraction) → excludes_zero low high ≡ true → IsMember y (between c d)
       → IsMember (times (low_of a b equator_radius) (reciprocal y)) held × IsMember (times (high_of a b equator_radius) (reciprocal y)) held
-  ends_held y e k =
+  endpoints_held y e k =
       let l = member a y e (le_refl a, p) k in
       let u = member b y e (p, le_refl b) k in
       let P : Fraction → Type 0 = λ z. IsMember (times z (reciprocal y)) held in
@@ -249,8 +249,8 @@ module _ (a b c d : Fraction) (p : a ≤F b) (q : c ≤F d) where
       by_test : (t : Bool) → excludes_zero low high ≡ t → quotient (product (between a b) (exactly equator_radius)) (between c d) ⊆ held
       by_test false e = rw (no_quotient a b low high e) (within_everything _)
       by_test true e =
-          let at_last = ends_held d e (q, le_refl d) in
-          let at_first = ends_held c e (le_refl c, q) in
+          let at_last = endpoints_held d e (q, le_refl d) in
+          let at_first = endpoints_held c e (le_refl c, q) in
           rw (product_is a b equator_radius, quotient_is (low_of a b equator_radius) (high_of a b equator_radius) c d (same_sides e))
           (corners_in (low_of a b equator_radius) (high_of a b equator_radius) (reciprocal d) (reciprocal c) held at_last.0 at_first.0 at_last.1 at_first.1)
 

@@ -22,11 +22,11 @@ use Rattle.book_model.specs.sky.Sun.{obliquity_of}
 use Rattle.book_model.specs.sky.Time.{sidereal_of}
 use Rattle.book_model.proofs.FactRuns.{centuries_few}
 use Rattle.book_model.proofs.Leads.{at_most_bind, at_most_more}
-use Rattle.encl_core.specs.Steps.{IsOpenLess}
+use Rattle.encl_core.specs.Steps.{IsUndecidedLess}
 use Rattle.encl_core.proofs.Measuring.{drawn}
 use Rattle.moon_core.proofs.PhaseRanges.{within_world}
 use Rattle.rise_set.proofs.Tilts.{no_failure}
-use Rattle.time_scales.specs.Steps.{IsYearOpenFor, IsNotOfYear}
+use Rattle.time_scales.specs.Steps.{IsYearUndecidedFor, IsNotOfYear}
 use Rattle.time_scales.proofs.WholeDays.{closed_year}
 use Rattle.book_model.specs.programs.Crossings.{halved_of, minute_in_of, crossing_from, crossing_of, opposite_of}
 use Rattle.book_model.specs.sky.Distance.{distance_of}
@@ -36,7 +36,7 @@ use Rattle.moon_rise.specs.Widths.{IsExact, IsDatedExact, IsSkyLocation}
 use Rattle.moon_rise.proofs.Heights.{place_is_sky}
 
 -- a failure at an undecided year is none where the enclosure lies in one year
-pub never_of_year : {T : Type 0} (i : Interval) (r : Result T Fail) → HasOneYear i → IfErr r (IsYearOpenFor i) → IfErr r IsNotOfYear
+pub never_of_year : {T : Type 0} (i : Interval) (r : Result T Fail) → HasOneYear i → IfErr r (IsYearUndecidedFor i) → IfErr r IsNotOfYear
 never_of_year i (Ok v) y h = tt
 never_of_year i (Err f) y h = closed_year i y.year f y.within y.fits h
 
@@ -65,7 +65,7 @@ sidereal_never shown p t P (Ok v) h = tt
 sidereal_never shown p t P (Err f) h = absurd (sidereal_answers shown p t f h)
 
 -- a comparison with 0 that is undecided is no test of a year
-pub rise_elsewhere : {T : Type 0} (i j k : Interval) (r : Result T Fail) → IfErr r (IsOpenLess i j Rise) → IfErr r (IsYearOpenFor k)
+pub rise_elsewhere : {T : Type 0} (i j k : Interval) (r : Result T Fail) → IfErr r (IsUndecidedLess i j Rise) → IfErr r (IsYearUndecidedFor k)
 rise_elsewhere i j k (Ok v) h = tt
 rise_elsewhere i j k (Err (undecided_at u)) h = λ e. let s = h.1 in absurd (cc)
 rise_elsewhere i j k (Err (Void s)) h = absurd h

@@ -8,7 +8,7 @@ ghost use Rattle.moon_rise.specs.Widths.{IsAltitude, IsExact, IsHeight, IsMoonDi
 ghost use Rattle.rise_set.specs.Altitudes.{IsTilt};
 ghost use Rattle.rise_set.specs.Widths.{IsDepression};
 ghost use Rattle.std.specs.Prelude.{◌≡◌, IfErr, IfOk};
-ghost use Rattle.time_scales.specs.Steps.{IsYearOpenFor};
+ghost use Rattle.time_scales.specs.Steps.{IsYearUndecidedFor};
 
 use crate::distances::distance_again;
 use book_model::{Fail, Frac, Location, Site};
@@ -93,7 +93,7 @@ fn observed_with<E: Enclosure>(
     ensures measured { IsSkyLocation location.now → IsExact (E.shown t)
         → IsSiderealTime (E.shown sidereal) → IsTilt (E.shown obliquity)
         → Measured E.BITS E.shown IsHeight result }
-    ensures open { IfErr result (IsYearOpenFor (E.shown t)) }
+    ensures open { IfErr result (IsYearUndecidedFor (E.shown t)) }
 {
     let elements = moon_elements(t, trail)?;
     let longitude = longitude_at(elements, trail)?;
@@ -114,7 +114,7 @@ pub fn observed<E: Enclosure>(location: &Location, t: E, trail: &mut Trail) -> R
         trail.new.count result }
     ensures measured { IsSkyLocation location.now → IsExact (E.shown t)
         → Measured E.BITS E.shown IsHeight result }
-    ensures open { IfErr result (IsYearOpenFor (E.shown t)) }
+    ensures open { IfErr result (IsYearUndecidedFor (E.shown t)) }
 {
     let greenwich = sidereal(t, trail)?;
     let tilt = obliquity_at(t, trail)?;
@@ -134,7 +134,7 @@ pub(crate) fn is_up<E: Enclosure>(
         result }
     ensures close { E.BITS ≡ 56 → IsSkyLocation location.now → IsExact (E.shown t)
         → IfErr result IsClose }
-    ensures open { IfErr result (IsYearOpenFor (E.shown t)) }
+    ensures open { IfErr result (IsYearUndecidedFor (E.shown t)) }
 {
     let altitude = observed(location, t, trail)?;
     less_step(E::from_int(0), altitude, Site::Rise, trail)

@@ -12,7 +12,7 @@ ghost use Rattle.book_model.specs.sky.Distance as spec;
 ghost use Rattle.moon_rise.specs.Widths.{IsDistance};
 ghost use Rattle.std.specs.Prelude.{◌≡◌, ◌^◌, ℕ, Ok, IfErr};
 ghost use Rattle.moon_core.specs.SunDaily.{in_centuries};
-ghost use Rattle.time_scales.specs.Steps.{IsYearOpenFor};
+ghost use Rattle.time_scales.specs.Steps.{IsYearUndecidedFor};
 
 use book_model::moon_tables::MEAN_DISTANCE;
 use book_model::{Fail, Frac};
@@ -56,7 +56,7 @@ fn distance_at<E: Enclosure>(elements: MoonElements<E>) -> E
 pub fn distance<E: Enclosure>(t: E, trail: &mut Trail) -> Result<E, Fail>
     ensures leads { Follows1 E.shown spec.distance_of t trail.old.count trail.new.count result }
     ensures measured { Measured1 E.BITS E.shown (2 ^ 44) IsMoment IsDistance t result }
-    ensures open { IfErr result (IsYearOpenFor (E.shown t)) }
+    ensures open { IfErr result (IsYearUndecidedFor (E.shown t)) }
 {
     let elements = moon_elements(t, trail)?;
     Ok(distance_at(elements))

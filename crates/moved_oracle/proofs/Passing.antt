@@ -8,7 +8,7 @@ use Rattle.book_model.specs.calendars.Moving.{moved_fact, moved, at_place}
 use Rattle.oracle_core.specs.declared.oracle.Stop.{Stop}
 use Rattle.oracle_core.specs.declared.oracle.Oracle.{Ghosts}
 use Rattle.oracle_core.specs.Asking.{Asks}
-use Rattle.oracle_core.specs.Inquiring.{Meaning, State, Tells, ends, goes_on, stops, Inquires}
+use Rattle.oracle_core.specs.Inquiring.{Meaning, State, Tells, endpoints, goes_on, stops, Inquires}
 use Rattle.moved_oracle.specs.declared.moving.Moved.{Moved}
 use Rattle.moved_oracle.specs.Moving.{Through, through, through_state}
 
@@ -17,7 +17,7 @@ use Rattle.moved_oracle.specs.Moving.{Through, through, through_state}
 tells_moved : {Known A : Type 0} {m : Meaning Known} {k : Through Known} {i : Inquiry A} {old new : List Fact} {r : Result A Stop}
     → Tells (through m) k i old new r → Tells m k.known (at_place k.place i) old new r
 unfolding moved
-tells_moved ends = ends
+tells_moved endpoints = endpoints
 tells_moved (goes_on value t) = goes_on value (tells_moved t)
 tells_moved (stops fresh stop) = stops fresh stop
 
@@ -33,7 +33,7 @@ asked_moved g i old last place name q r h back =
 -- an inquiry that is done asks nothing
 told_done : {Known : Type 0} {m : Meaning Known} {k : Known} {i : Inquiry ℤ} {old new : List Fact} {r : Result ℤ Stop} (a : ℤ)
     → Tells m k i old new r → i ≡ done a → (new ≡ old) × (r ≡ Ok a)
-told_done a ends e = (refl, cc)
+told_done a endpoints e = (refl, cc)
 told_done a (goes_on value t) e = absurd (cc)
 told_done a (stops fresh stop) e = absurd (cc)
 
@@ -50,12 +50,12 @@ next_of v (ask f next) = next v
 one_told : {Known : Type 0} {m : Meaning Known} (k : Through Known) {j : Inquiry ℤ} {old new : List Fact} {r : Result ℤ Stop} (f : Fact)
     → Tells m k.known j old new r → j ≡ ask (moved_fact k.place f) done → Tells (through m) k (ask f done) old new r
 unfolding first_of next_of
-one_told k f ends e = absurd (cc)
+one_told k f endpoints e = absurd (cc)
 one_told {m = m} k {old = old} {new = new} f (goes_on {f = g} {v = v} {next = next} value t) e =
     let gf : g ≡ moved_fact k.place f = ap (first_of f) e in
     let d = told_done v t (ap (next_of v) e) in
     let here : (through m).value_of k ((through m).kept_as k f) v = rw gf at value in
-    rw (d.0, d.1, gf) (goes_on here ends)
+    rw (d.0, d.1, gf) (goes_on here endpoints)
 one_told k f (stops {f = g} fresh stop) e =
     let gf : g ≡ moved_fact k.place f = ap (first_of f) e in
     stops (rw gf at fresh) (rw gf at stop)

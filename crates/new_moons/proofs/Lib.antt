@@ -1,5 +1,5 @@
 pub mod KeptMoons
 pub mod Measured
 pub mod MonthPolynomials
-pub mod PlanetWaves
+pub mod PlanetTerms
 pub mod PlanetWidths

@@ -9,12 +9,12 @@ use Rattle.book_model.specs.Interval.{Interval}
 use Rattle.book_model.specs.declared.fail.Fail.{Fail}
 use Rattle.book_model.specs.declared.frac.Frac.{Frac}
 use Rattle.book_model.specs.declared.moon_tables.TheConstants.{ECCENTRICITY_FACTOR}
-use Rattle.book_model.specs.declared.new_moon_tables.TheConstants.{MEAN_NEW_MOON, NEW_MOON_ANOMALY, NEW_MOON_LATITUDE_ARGUMENT, NEW_MOON_NODE, NEW_MOON_SUN_ANOMALY, NEW_MOON_WAVE, NODE_TERM, RECENT_DAYS}
+use Rattle.book_model.specs.declared.new_moon_tables.TheConstants.{MEAN_NEW_MOON, NEW_MOON_ANOMALY, NEW_MOON_LATITUDE_ARGUMENT, NEW_MOON_NODE, NEW_MOON_SUN_ANOMALY, NEW_MOON_TERM, NODE_TERM, RECENT_DAYS}
 use Rattle.book_model.specs.declared.time_tables.TheConstants.{NOON_2000, RECENT_START}
 use Rattle.book_model.specs.numbers.Bounds.{Bound, unbounded, bounded, Reach, bound_of, ceil_at_32, floor_at_32, implies, limits_at, limits_of, integer_bound, constant_bound, range_size, sum_bound, scaled_bound, product_bound, power_bound, spanned_bound, sine_spans}
 use Rattle.book_model.specs.numbers.Expressions.{Expression, argument, constant, integer, add, multiply, power, scale, sine}
 use Rattle.book_model.specs.numbers.Fractions.{fraction_of}
-use Rattle.book_model.specs.numbers.Polynomials.{quadratic_of, quadratic_wave_of}
+use Rattle.book_model.specs.numbers.Polynomials.{quadratic_of, quadratic_term_of}
 use Rattle.book_model.specs.numbers.Relations.{Narrow, Keeps}
 use Rattle.book_model.specs.programs.Widths.{IsWithin, IsAbout, IsMoment, Measures, recent_from, IsSince}
 use Rattle.book_model.specs.sky.NewMoons.{millionths, centuries_of_months}
@@ -81,10 +81,10 @@ eccentricity_reach : implies (bound_of (limits_at 56) time_bounds (quadratic_of 
 unfolding implies bound_of constant_bound sum_bound scaled_bound power_bound quadratic_of
 eccentricity_reach = refl
 
-venus_reach : implies (bound_of (limits_at 56) time_bounds (quadratic_wave_of NEW_MOON_WAVE (argument 0)))
+venus_reach : implies (bound_of (limits_at 56) time_bounds (quadratic_term_of NEW_MOON_TERM (argument 0)))
     (bounded (neg_ℤ (pos (2 ^ 32))) (pos (2 ^ 32)) 0 (2 ^ 12)) ≡ true
 unfolding implies bound_of constant_bound sum_bound scaled_bound power_bound spanned_bound sine_spans quadratic_of
-    quadratic_wave_of
+    quadratic_term_of
 venus_reach = refl
 
 module _ {E : Type 0} (shown : E → Interval) (n : ℕ) (e y : E) (p : n ≡ 56)
@@ -117,9 +117,9 @@ module _ {E : Type 0} (shown : E → Interval) (n : ℕ) (e y : E) (p : n ≡ 56
       (omega arith) (f (record { width = 0; bounds = time_bounds }) (argument 0) time_kept)
 
   pub venus_within : ((r : Reach) (x : Expression) → Narrow shown (limits_of n) r x e
-      → Narrow shown (limits_of n) r (quadratic_wave_of NEW_MOON_WAVE x) y)
+      → Narrow shown (limits_of n) r (quadratic_term_of NEW_MOON_TERM x) y)
       → IsAbout (2 ^ 32) (2 ^ 12) (shown y)
-  venus_within f = measured shown n 0 time_bounds (quadratic_wave_of NEW_MOON_WAVE (argument 0)) _ _ 0 (2 ^ 12)
+  venus_within f = measured shown n 0 time_bounds (quadratic_term_of NEW_MOON_TERM (argument 0)) _ _ 0 (2 ^ 12)
       (2 ^ 12) y p venus_reach (omega arith)
       (f (record { width = 0; bounds = time_bounds }) (argument 0) time_kept)
 

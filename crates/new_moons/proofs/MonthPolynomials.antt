@@ -24,10 +24,10 @@ use Rattle.new_moons.specs.Months.{cubic_by, quartic_by, quartic_sum}
 -- an interval that holds a number
 pub member_within : (x : Fraction) (i : Interval) → IsMember x i → exactly x ⊆ i
 member_within x everything m = within_everything _
-member_within x (between a b) m = record { ends = m }
+member_within x (between a b) m = record { endpoints = m }
 
 pub exactly_within : (x y : Fraction) → x ≈ y → exactly x ⊆ exactly y
-exactly_within x y s = record { ends = (ge_of_same s, le_of_same s) }
+exactly_within x y s = record { endpoints = (ge_of_same s, le_of_same s) }
 
 -- ---- the powers of a time
 cube_is : (c : Fraction) → power c 3 ≈ times (power c 2) c

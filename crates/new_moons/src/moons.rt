@@ -20,7 +20,7 @@ ghost use Rattle.book_model.specs.declared.time_tables.TheConstants.{RECENT_STAR
 use crate::angles::Angles;
 use crate::months::{Powers, angles_by_months, mean_by_months, node_by_months, powers_at};
 use crate::planets::planet_terms;
-use book_model::new_moon_tables::{NEW_MOON_OF_2000, NEW_MOON_WAVE, NODE_TERM};
+use book_model::new_moon_tables::{NEW_MOON_OF_2000, NEW_MOON_TERM, NODE_TERM};
 use book_model::time_tables::NOON_2000;
 use book_model::{Fail, Frac};
 use encl_core::{Asked, Enclosure, Trail};
@@ -94,13 +94,13 @@ fn lunar_terms<E: Enclosure>(number: i64, powers: Powers<E>) -> E
 
 /// What Venus adds, in days.
 #[inline(always)]
-#[tactic(auto, unfolding(book_model::specs::numbers::Polynomials::quadratic_wave_of, book_model::specs::sky::NewMoons::venus_wave_of))]
-fn venus_wave<E: Enclosure>(time: Frac) -> E
-    ensures encloses { Encloses E.shown E.BITS (spec.venus_wave_of (fraction_of time)) result }
+#[tactic(auto, unfolding(book_model::specs::numbers::Polynomials::quadratic_term_of, book_model::specs::sky::NewMoons::venus_term_of))]
+fn venus_term<E: Enclosure>(time: Frac) -> E
+    ensures encloses { Encloses E.shown E.BITS (spec.venus_term_of (fraction_of time)) result }
     ensures measured { E.BITS ≡ 56 → IsNearTime (fraction_of time)
         → IsAbout (2 ^ 32) (2 ^ 12) (E.shown result) }
 {
-    sin_deg(quadratic(&NEW_MOON_WAVE.angle, E::from_frac(time))).mul_frac(NEW_MOON_WAVE.size)
+    sin_deg(quadratic(&NEW_MOON_TERM.angle, E::from_frac(time))).mul_frac(NEW_MOON_TERM.size)
 }
 
 /// The new moon of a number, counted from that of January 2000, in dynamical time: each polynomial by what a month adds and by powers of
@@ -118,7 +118,7 @@ fn dynamical_new_moon<E: Enclosure>(number: i64) -> E
     mean_new_moon(number, powers)
         .add(node_term(number, powers))
         .add(lunar_terms(number, powers))
-        .add(venus_wave::<E>(time))
+        .add(venus_term::<E>(time))
         .add(planet_terms::<E>(number))
 }
 

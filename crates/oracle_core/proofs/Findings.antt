@@ -7,7 +7,7 @@ use Rattle.book_model.specs.sky.Facts.{run_of}
 use Rattle.book_model.specs.calendars.Inquiries.{Inquiry, fact_eq, with_fact, with_entry, found, finding, finding_after, AsksAt, asks_here, asks_after}
 use Rattle.book_model.specs.programs.Programs.{valued, outcome}
 use Rattle.oracle_core.specs.declared.oracle.Stop.{Stop}
-use Rattle.oracle_core.specs.Inquiring.{State, Tells, ends, goes_on, stops, Inquires}
+use Rattle.oracle_core.specs.Inquiring.{State, Tells, endpoints, goes_on, stops, Inquires}
 use Rattle.oracle_core.specs.Oracles.{by_evaluator}
 use Rattle.oracle_core.specs.Pairs.{StandsWith, AllStand, facts_of, one_truth}
 use Rattle.oracle_core.specs.Stops.{MayStopAsking, IsStopAt}
@@ -50,7 +50,7 @@ finds_over : {A : Type 0} {k : Unit {0}} {i : Inquiry A} {old new : List Fact} {
     → Tells by_evaluator k i old new r → r ≡ Ok a
     → old ≡ facts_of seen → new ≡ facts_of es → AllStand seen → AllStand es → finding_after n seen i ≡ found a es
 unfolding finding_after
-finds_over n seen es a deep (ends {a = b}) e h k s t = let result : b ≡ a = cc in rw (result, one_list seen es s t (sym h ∙ k)) refl
+finds_over n seen es a deep (endpoints {a = b}) e h k s t = let result : b ≡ a = cc in rw (result, one_list seen es s t (sym h ∙ k)) refl
 finds_over n seen es a deep (goes_on {f = f} {v = v} value rest) e h k s t =
     let here : outcome (run_of n f) ≡ valued v = value.is_true.at_each_depth n deep in
     rw here (finds_over n (with_entry seen f v) es a deep rest e (rw h (sym (facts_with seen f v))) k (stand_with seen f v s value) t)
@@ -69,7 +69,7 @@ pub record StopsThere {A : Type 0} (n : ℕ) (i : Inquiry A) (s : Stop) : Type 0
 
 stops_at : {A : Type 0} {k : Unit {0}} {i : Inquiry A} {old new : List Fact} {r : Result A Stop} (n : ℕ) (s : Stop) → 40 ≤ n → Tells by_evaluator k i old new r
     → r ≡ Err s → StopsThere n i s
-stops_at n s deep ends e = cc
+stops_at n s deep endpoints e = cc
 stops_at n s deep (goes_on value rest) e = let t = stops_at n s deep rest e in record
     { fact = t.fact; asks = asks_after (value.is_true.at_each_depth n deep) t.asks; stop = t.stop }
 stops_at n s deep (stops {f = f} {s = z} fresh stop) e = let same : z ≡ s = cc in record { fact = f; asks = asks_here; stop = rw same at stop }

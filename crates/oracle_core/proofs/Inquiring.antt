@@ -6,7 +6,7 @@ use Rattle.std.proofs.lemmas.Int.{to_z-of_z}
 use Rattle.book_model.specs.declared.fact.Fact.{Fact}
 use Rattle.book_model.specs.calendars.Inquiries.{Inquiry, done, ask, ask_once, and_then, fact_eq, with_fact}
 use Rattle.oracle_core.specs.declared.oracle.Stop.{Stop}
-use Rattle.oracle_core.specs.Inquiring.{Meaning, State, Tells, ends, goes_on, stops, Inquires}
+use Rattle.oracle_core.specs.Inquiring.{Meaning, State, Tells, endpoints, goes_on, stops, Inquires}
 use Rattle.oracle_core.specs.Stops.{IsStopAt}
 
 -- ---- one fact
@@ -15,7 +15,7 @@ pub asked_value : {Known : Type 0} {m : Meaning Known} {v : ℤ} {old new : Stat
     ≡ with_fact old.asked (m.kept_as old.known f)
     → m.value_of old.known (m.kept_as old.known f) v → Inquires m (ask_once f) old new (Ok v)
 unfolding ask_once
-asked_value {m = m} f same added value = record { same = same; tells = rw added (goes_on value ends) }
+asked_value {m = m} f same added value = record { same = same; tells = rw added (goes_on value endpoints) }
 
 -- a fact that isn't in the list is answered by an early return, and the list stays
 pub asked_stop : {Known : Type 0} {m : Meaning Known} {s : Stop} {old new : State Known} (f : Fact) → new.known ≡ old.known → new.asked ≡ old.asked
@@ -28,7 +28,7 @@ asked_stop {m = m} f same left fresh stop = record { same = same; tells = rw lef
 tells_then : {Known A B : Type 0} {m : Meaning Known} {k : Known} {i : Inquiry A} {old mid new : List Fact} {a : A} {r : Result B Stop} (next : A → Inquiry B)
     → Tells m k i old mid (Ok a) → Tells m k (next a) mid new r → Tells m k (and_then i next) old new r
 unfolding and_then
-tells_then next ends h = h
+tells_then next endpoints h = h
 tells_then next (goes_on value t) h = goes_on value (tells_then next t h)
 
 tells_stop : {Known A B : Type 0} {m : Meaning Known} {k : Known} {i : Inquiry A} {old new : List Fact} {s : Stop} (next : A → Inquiry B)
@@ -39,7 +39,7 @@ tells_stop next (stops fresh stop) = stops fresh stop
 
 -- an inquiry that is done
 pub inquires_done : {Known A : Type 0} {m : Meaning Known} {a : A} {s : State Known} → Inquires m (done a) s s (Ok a)
-inquires_done = record { same = refl; tells = ends }
+inquires_done = record { same = refl; tells = endpoints }
 
 -- an inquiry has a result, and the one that it leads to has this one
 pub inquires_then : {Known A B : Type 0} {m : Meaning Known} {i : Inquiry A} (next : A → Inquiry B) {old mid new : State Known} {a : A} {r : Result B Stop}

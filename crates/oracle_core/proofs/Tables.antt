@@ -4,8 +4,8 @@ use Rattle.std.specs.Prelude.{Ok, Err}
 use Rattle.book_model.specs.declared.fact.Fact.{Fact}
 use Rattle.book_model.specs.calendars.Inquiries.{Inquiry, facts_over, with_kept}
 use Rattle.oracle_core.specs.declared.oracle.Stop.{Stop}
-use Rattle.oracle_core.specs.Inquiring.{Meaning, State, Tells, ends, goes_on, stops, Inquires}
-use Rattle.oracle_core.specs.Pairs.{IsFront}
+use Rattle.oracle_core.specs.Inquiring.{Meaning, State, Tells, endpoints, goes_on, stops, Inquires}
+use Rattle.oracle_core.specs.Pairs.{IsPrefix}
 use Rattle.oracle_core.specs.Stops.{IsStopAt}
 use Rattle.oracle_core.specs.Tables.{AgreesOn, AreValued, ComesTo, AnswersOver, StopsOver}
 
@@ -21,12 +21,12 @@ record Stopped {Known A : Type 0} (m : Meaning Known) (k : Known) (i : Inquiry A
   fact : Fact
   valued : AreValued m k before
   asked : new ≡ with_kept (m.kept_as k) old before
-  over : (table : Fact → ℤ) → AgreesOn m k before table → IsFront (before ++ fact ∷ []) (facts_over table i)
+  over : (table : Fact → ℤ) → AgreesOn m k before table → IsPrefix (before ++ fact ∷ []) (facts_over table i)
   stop : IsStopAt (m.may_stop k) (m.kept_as k fact) s
 
 answered : {Known A : Type 0} {m : Meaning Known} {k : Known} {i : Inquiry A} {old new : List Fact} {a : A} → Tells m k i old new (Ok a)
     → Answered m k i old new a
-answered ends = record { facts = []; valued = tt; asked = refl; over = λ table agrees. record { asks = refl; result = refl } }
+answered endpoints = record { facts = []; valued = tt; asked = refl; over = λ table agrees. record { asks = refl; result = refl } }
 answered (goes_on {f = f} {v = v} value rest) =
     let r = answered rest in
     record {

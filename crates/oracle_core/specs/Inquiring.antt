@@ -23,7 +23,7 @@ pub record State (Known : Type 0) : Type 0 where
 -- and the fact under which it is stored joins the list; or it ends with an early return that may come there, at a fact
 -- that isn't in the list.
 pub data Tells {Known A : Type 0} (m : Meaning Known) (k : Known) : Inquiry A → List Fact → List Fact → Result A Stop → Type 0 where
-  ends : {a : A} {asked : List Fact} → Tells m k (done a) asked asked (Ok a)
+  endpoints : {a : A} {asked : List Fact} → Tells m k (done a) asked asked (Ok a)
   goes_on : {f : Fact} {v : ℤ} {next : ℤ → Inquiry A} {old new : List Fact} {r : Result A Stop} → m.value_of k (m.kept_as k f) v
       → Tells m k (next v) (with_fact old (m.kept_as k f)) new r → Tells m k (ask f next) old new r
   stops : {f : Fact} {s : Stop} {next : ℤ → Inquiry A} {asked : List Fact} → list_any (fact_eq (m.kept_as k f)) asked ≡ false

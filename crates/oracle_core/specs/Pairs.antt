@@ -46,9 +46,9 @@ pub record FactTable : Type 0 where
   pub values : List ℤ
 
 -- the list begins with these
-pub record IsFront (front whole : List Fact) : Type 0 where
+pub record IsPrefix (prefix whole : List Fact) : Type 0 where
   pub rest : List Fact
-  pub joined : front ++ rest ≡ whole
+  pub joined : prefix ++ rest ≡ whole
 
 -- facts with their values, each of which a fact may have; each fact that was asked is one of them
 pub record IsListing (facts : List Fact) (values : List ℤ) (asked : List Fact) : Type 0 where

@@ -4,7 +4,7 @@ use Rattle.book_model.specs.declared.fact.Fact.{Fact}
 use Rattle.book_model.specs.calendars.Inquiries.{Inquiry, result_over, facts_over, with_kept}
 use Rattle.oracle_core.specs.declared.oracle.Stop.{Stop}
 use Rattle.oracle_core.specs.Inquiring.{Meaning, State}
-use Rattle.oracle_core.specs.Pairs.{IsFront}
+use Rattle.oracle_core.specs.Pairs.{IsPrefix}
 use Rattle.oracle_core.specs.Stops.{IsStopAt}
 
 -- the table gives each of these facts the value that is known of the fact under which it is stored
@@ -37,5 +37,5 @@ pub record StopsOver {Known A : Type 0} (m : Meaning Known) (i : Inquiry A) (old
   pub fact : Fact
   pub valued : AreValued m old.known before
   pub asked : new.asked ≡ with_kept (m.kept_as old.known) old.asked before
-  pub over : (table : Fact → ℤ) → AgreesOn m old.known before table → IsFront (before ++ fact ∷ []) (facts_over table i)
+  pub over : (table : Fact → ℤ) → AgreesOn m old.known before table → IsPrefix (before ++ fact ∷ []) (facts_over table i)
   pub stop : IsStopAt (m.may_stop old.known) (m.kept_as old.known fact) s

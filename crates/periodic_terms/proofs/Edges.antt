@@ -2,7 +2,7 @@
 use Rattle.std.proofs.Common.{◌≡◌, ℕ, zero, suc, ◌-◌, ◌≤◌, refl, arith, neg_ℤ, ℤ, pos, negsuc, ◌+ℤ◌, ◌-ℤ◌, ◌*ℤ◌, ◌≤ℤ◌, ◌<ℤ◌, ◌⊎◌, inl, inr}
 use Rattle.std.proofs.lemmas.Int.{ints}
 use Rattle.book_model.specs.Fraction.{Fraction, ◌≤F◌}
-use Rattle.book_model.proofs.Alternating.{sum_ends_in_order}
+use Rattle.book_model.proofs.Alternating.{sum_endpoints_in_order}
 use Rattle.book_model.proofs.Floors.{floor_quotient_is}
 use Rattle.book_model.proofs.Fractions.{le_trans}
 use Rattle.book_model.specs.programs.Leading.{units_of_56}
@@ -11,7 +11,7 @@ use Rattle.book_model.specs.numbers.Series.{sine_term, cosine_term}
 use Rattle.book_model.proofs.SeriesNesting.{sine_uppers, cosine_uppers}
 use Rattle.book_model.proofs.Terms.{sine_halving, cosine_halving}
 use Rattle.encl_core.specs.parts.TheConstants.{OCTANT}
-use Rattle.trig_series.specs.Kernel.{in_radians, in_radians_above, IsInRadians, IsAngle, AreSineEnds, AreCosineEnds}
+use Rattle.trig_series.specs.Kernel.{in_radians, in_radians_above, IsInRadians, IsAngle, AreSineEndpoints, AreCosineEndpoints}
 use Rattle.trig_series.proofs.Curves.{in_fifths}
 use Rattle.trig_series.proofs.KernelAngles.{angle_between, by_lower, by_upper}
 use Rattle.trig_series.proofs.PartLemmas.{above_fifths}
@@ -24,14 +24,14 @@ use Rattle.periodic_terms.specs.Turning.{HasSine, HasCosine, HasPoint}
 use Rattle.periodic_terms.proofs.Spreads.{sine_wider, cosine_wider, wider}
 
 -- ---- from the kernel's numbers
-pub sine_is : (d s : ℕ) (lo hi : ℤ) → ((n : ℕ) (x : Fraction) → 8 ≤ n → IsInRadians d x → AreSineEnds x s n) → (lo *ℤ pos 256 +ℤ pos 384) ≤ℤ pos s
+pub sine_is : (d s : ℕ) (lo hi : ℤ) → ((n : ℕ) (x : Fraction) → 8 ≤ n → IsInRadians d x → AreSineEndpoints x s n) → (lo *ℤ pos 256 +ℤ pos 384) ≤ℤ pos s
     → pos s ≤ℤ (hi *ℤ pos 256 -ℤ pos 384) → HasSine d lo hi
 sine_is d s lo hi f l u = record {
   low = λ n m. le_trans _ _ _ (low_end (pos s) (pos 384) lo l) (f n _ (omega (arith, m)) (by_lower d)).low;
   high = λ n m. le_trans _ _ _ (f n _ (omega (arith, m)) (by_upper d)).high (high_end (pos s) (pos 384) hi u);
 }
 
-pub cosine_is : (d s : ℕ) (lo hi : ℤ) → ((n : ℕ) (x : Fraction) → 9 ≤ n → IsInRadians d x → AreCosineEnds x s n) → (lo *ℤ pos 256 +ℤ pos 320) ≤ℤ pos s
+pub cosine_is : (d s : ℕ) (lo hi : ℤ) → ((n : ℕ) (x : Fraction) → 9 ≤ n → IsInRadians d x → AreCosineEndpoints x s n) → (lo *ℤ pos 256 +ℤ pos 320) ≤ℤ pos s
     → pos s ≤ℤ (hi *ℤ pos 256 -ℤ pos 320) → HasCosine d lo hi
 cosine_is d s lo hi f l u = record {
   low = λ n m. le_trans _ _ _ (low_end (pos s) (pos 320) lo l) (f n _ (omega (arith, m)) (by_upper d)).low;
@@ -64,14 +64,14 @@ none_chain = record {
   k0 = keeps 18446744073709551615 0 3074457345618258602 0 (high 0 0 3074457345618258602 (omega arith) (omega arith)) (omega arith) (omega arith);
 }
 
-none_ends : (n : ℕ) (x : Fraction) → 8 ≤ n → IsInRadians 0 x → AreSineEnds x 0 n
-none_ends n x l t =
+none_endpoints : (n : ℕ) (x : Fraction) → 8 ≤ n → IsInRadians 0 x → AreSineEndpoints x 0 n
+none_endpoints n x l t =
     sine_near n 0 0 51862 14106527 2962370717 462129831893 50834281508238 3660068268593165 153722867280912930 3074457345618258602 18446744073709551615 0 x l
     (omega arith) (omega arith) (high 0 0 0 (omega arith) (omega arith)) (high 0 0 18446744073709551615 (omega arith) (omega arith))
     (none_angle x t) none_chain
 
 pub sine_at_0 : HasSine 0 (negsuc 1) (pos 2)
-sine_at_0 = sine_is 0 0 _ _ none_ends (omega (arith, ints)) (omega (arith, ints))
+sine_at_0 = sine_is 0 0 _ _ none_endpoints (omega (arith, ints)) (omega (arith, ints))
 
 -- ---- the endpoints of one span hold those of another at the same angle, but for its width
 at_order : (a b : ℤ) → units_of_56 a ≤F units_of_56 b → a ≤ℤ b
@@ -81,14 +81,14 @@ sines_meet : (d : ℕ) (lo hi lo' hi' : ℤ) → d ≤ OCTANT → HasSine d lo h
 sines_meet d lo hi lo' hi' u h k =
     at_order lo hi'
     (le_trans _ _ _ (h.low 40 (omega arith))
-    (le_trans _ _ _ (sum_ends_in_order 40 (sine_term (in_radians d)) ((sine_halving (in_radians d) (in_fifths d u)).nonneg 41))
+    (le_trans _ _ _ (sum_endpoints_in_order 40 (sine_term (in_radians d)) ((sine_halving (in_radians d) (in_fifths d u)).nonneg 41))
     (le_trans _ _ _ (sine_uppers 40 _ _ (in_fifths d u) (above_fifths d u) (neighbours d)) (k.high 40 (omega arith)))))
 
 cosines_meet : (d : ℕ) (lo hi lo' hi' : ℤ) → d ≤ OCTANT → HasCosine d lo hi → HasCosine d lo' hi' → lo ≤ℤ hi'
 cosines_meet d lo hi lo' hi' u h k =
     at_order lo hi'
     (le_trans _ _ _ (h.low 40 (omega arith))
-    (le_trans _ _ _ (sum_ends_in_order 40 (cosine_term (in_radians_above d)) ((cosine_halving (in_radians_above d) (above_fifths d u)).nonneg 40))
+    (le_trans _ _ _ (sum_endpoints_in_order 40 (cosine_term (in_radians_above d)) ((cosine_halving (in_radians_above d) (above_fifths d u)).nonneg 40))
     (le_trans _ _ _ (cosine_uppers 39 _ _ (in_fifths d u) (above_fifths d u) (neighbours d)) (k.high 40 (omega arith)))))
 
 -- ---- from the end of an octant to the beginning of the next
@@ -162,19 +162,19 @@ preceding k lo hi h = earlier (octant_of_turn k) lo hi (last_point _ _ 0 lo hi
 
 -- ---- in the first half turn, and four octants later
 module _ (o d s : ℕ) (r : ℤ) (l : (r *ℤ pos 256) ≤ℤ pos s) (u : pos s <ℤ (r *ℤ pos 256 +ℤ pos 256)) where
-  pub half_0 : o ≡ 0 → ((n : ℕ) (x : Fraction) → 8 ≤ n → IsInRadians d x → AreSineEnds x s n) → HasPoint o d (r -ℤ pos 3) (r +ℤ pos 3)
+  pub half_0 : o ≡ 0 → ((n : ℕ) (x : Fraction) → 8 ≤ n → IsInRadians d x → AreSineEndpoints x s n) → HasPoint o d (r -ℤ pos 3) (r +ℤ pos 3)
   unfolding HasPoint
   half_0 e f = rw e (sine_is d s _ _ f (omega (arith, ints, l)) (omega (arith, ints, u)))
 
-  pub half_1 : o ≡ 1 → ((n : ℕ) (x : Fraction) → 9 ≤ n → IsInRadians (OCTANT - d) x → AreCosineEnds x s n) → HasPoint o d (r -ℤ pos 3) (r +ℤ pos 3)
+  pub half_1 : o ≡ 1 → ((n : ℕ) (x : Fraction) → 9 ≤ n → IsInRadians (OCTANT - d) x → AreCosineEndpoints x s n) → HasPoint o d (r -ℤ pos 3) (r +ℤ pos 3)
   unfolding HasPoint
   half_1 e f = rw e (cosine_is (OCTANT - d) s _ _ f (omega (arith, ints, l)) (omega (arith, ints, u)))
 
-  pub half_2 : o ≡ 2 → ((n : ℕ) (x : Fraction) → 9 ≤ n → IsInRadians d x → AreCosineEnds x s n) → HasPoint o d (r -ℤ pos 3) (r +ℤ pos 3)
+  pub half_2 : o ≡ 2 → ((n : ℕ) (x : Fraction) → 9 ≤ n → IsInRadians d x → AreCosineEndpoints x s n) → HasPoint o d (r -ℤ pos 3) (r +ℤ pos 3)
   unfolding HasPoint
   half_2 e f = rw e (cosine_is d s _ _ f (omega (arith, ints, l)) (omega (arith, ints, u)))
 
-  pub half_3 : o ≡ 3 → ((n : ℕ) (x : Fraction) → 8 ≤ n → IsInRadians (OCTANT - d) x → AreSineEnds x s n) → HasPoint o d (r -ℤ pos 3) (r +ℤ pos 3)
+  pub half_3 : o ≡ 3 → ((n : ℕ) (x : Fraction) → 8 ≤ n → IsInRadians (OCTANT - d) x → AreSineEndpoints x s n) → HasPoint o d (r -ℤ pos 3) (r +ℤ pos 3)
   unfolding HasPoint
   half_3 e f = rw e (sine_is (OCTANT - d) s _ _ f (omega (arith, ints, l)) (omega (arith, ints, u)))
 

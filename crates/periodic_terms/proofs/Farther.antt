@@ -97,7 +97,7 @@ all_of : (n : ℕ) (i : Interval) (lo hi : ℤ) → IsProper i → lo ≤ℤ neg
     → sine_of_degrees n i ⊆ between (units_of_56 lo) (units_of_56 hi)
 all_of n i lo hi p l u =
     within_trans (all_hold n i (neg_ℤ (pos (2 ^ 56))) (pos (2 ^ 56)) p refl refl)
-    (record { ends = (order_at lo _ l, order_at _ hi u) })
+    (record { endpoints = (order_at lo _ l, order_at _ hi u) })
 
 few_thirds : (x : ℕ) → pos x <ℤ pos (3 * OCTANT - 30) → pos (x / 3 + 4) <ℤ pos OCTANT
 few_thirds x h = omega (arith, ints, h)

@@ -23,7 +23,7 @@ turn_found shown angle lo hi (Some t) s h = λ w x k. h (value w x) (within_tran
 factor_inside : (f h : ℕ) (lo hi : ℤ) (i : Interval) → (pos f -ℤ pos h) ≤ℤ lo → hi ≤ℤ (pos f +ℤ pos h)
     → i ⊆ between (units_of_56 lo) (units_of_56 hi) → IsFactor f h i
 factor_inside f h lo hi i l u k = within_trans k (record {
-  ends =
+  endpoints =
       (record { cross = omega (arith, ints, l) }, record { cross = omega (arith, ints, u) });
 })
 
@@ -39,7 +39,7 @@ factor_found shown factor lo hi (Some f) s l u = λ w x k. factor_inside f.middl
 -- wider ones
 pub wider_factor : (f v h : ℕ) (i : Interval) → v ≤ h → IsFactor f v i → IsFactor f h i
 wider_factor f v h i l k = within_trans k (record {
-  ends = (
+  endpoints = (
     record { cross = omega (arith, ints, l) },
     record { cross = omega (arith, ints, l) },
   );

@@ -2,9 +2,9 @@ pub mod Spreads
 pub mod Edges
 pub mod Around
 pub mod Farther
-pub mod WaveRows
-pub mod WaveSums
-pub mod WaveSpans
+pub mod RowsByTime
+pub mod SumsByTime
+pub mod SpansByTime
 pub mod Counts
 pub mod TableMatches
 pub mod AnySums

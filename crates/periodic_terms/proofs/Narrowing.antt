@@ -19,15 +19,15 @@ pub some_span : (a b : ℤ) (v : ℕ) (i : Interval) → i ≡ everything → Is
 unfolding IsNarrow
 some_span a b v i e h = let k : IsNarrow 0 (bounded a b 0 v) everything = rw e at h.kept in k
 
-pub ends_of : (a b : ℤ) (v : ℕ) (i : Interval) (lo hi : ℤ) → lo ≤ℤ hi → i ⊆ between (units_of_56 lo) (units_of_56 hi)
+pub endpoints_of : (a b : ℤ) (v : ℕ) (i : Interval) (lo hi : ℤ) → lo ≤ℤ hi → i ⊆ between (units_of_56 lo) (units_of_56 hi)
     → between (units_of_56 lo) (units_of_56 hi) ⊆ i → IsWithin a b v i → AreKept a b 0 v 0 lo hi
 unfolding IsNarrow
-ends_of a b v i lo hi o g h k = kept_of a b 0 v 0 lo hi (span_keeps 0 (bounded a b 0 v) i lo hi o g h k.kept)
+endpoints_of a b v i lo hi o g h k = kept_of a b 0 v 0 lo hi (span_keeps 0 (bounded a b 0 v) i lo hi o g h k.kept)
 
-pub ends_within : (a b : ℤ) (v : ℕ) (lo hi : ℤ) → lo ≤ℤ hi → (a *ℤ pos (2 ^ 24)) ≤ℤ lo → hi ≤ℤ (b *ℤ pos (2 ^ 24))
+pub endpoints_within : (a b : ℤ) (v : ℕ) (lo hi : ℤ) → lo ≤ℤ hi → (a *ℤ pos (2 ^ 24)) ≤ℤ lo → hi ≤ℤ (b *ℤ pos (2 ^ 24))
     → ((hi -ℤ lo) *ℤ pos 256) ≤ℤ pos v → IsWithin a b v (between (units_of_56 lo) (units_of_56 hi))
 unfolding IsNarrow
-ends_within a b v lo hi o l u d = record {
+endpoints_within a b v lo hi o l u d = record {
   kept = spans_of a b 0 v 0 lo hi (record { low = l; high = u; order = o; close = omega (arith, ints, d) });
 }
 

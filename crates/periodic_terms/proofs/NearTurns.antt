@@ -11,10 +11,10 @@ use Rattle.book_model.specs.numbers.Expressions.{exactly}
 use Rattle.book_model.specs.numbers.Octants.{only, sine_of_degrees}
 use Rattle.book_model.specs.programs.Leading.{units_of_56}
 use Rattle.encl_core.specs.parts.TheConstants.{OCTANT}
-use Rattle.trig_series.proofs.KernelAngles.{product_ends}
+use Rattle.trig_series.proofs.KernelAngles.{product_endpoints}
 use Rattle.periodic_terms.specs.Turning.{HasPoint, octant_of, degrees_of}
 use Rattle.periodic_terms.proofs.Around.{IsAngleNear, sine_near}
-use Rattle.periodic_terms.proofs.WaveRows.{corners, octant_is, degrees_are, degrees_few, octant_few, abs_above, abs_below}
+use Rattle.periodic_terms.proofs.RowsByTime.{corners, octant_is, degrees_are, degrees_few, octant_few, abs_above, abs_below}
 use Rattle.periodic_terms.specs.Angles.{in_61, IsAround, IsKnown, IsNearTurn, IsTurnAt, IsWideTurnAt}
 
 -- ---- order
@@ -24,7 +24,7 @@ order_61 p q h = record { cross = omega (arith, ints) }
 -- ---- wider
 wider_around : (t : ℤ) (v w : ℕ) (i : Interval) → v ≤ w → IsAround t v i → IsAround t w i
 wider_around t v w i h k = within_trans k (record {
-  ends = (
+  endpoints = (
     order_61 _ _ (omega (arith, ints, h)),
     order_61 _ _ (omega (arith, ints, h)),
   );
@@ -38,12 +38,12 @@ wider_near t v w i h k = record {
 }
 
 -- ---- a sum
-sum_ends : (p q r a b : ℤ) → r ≡ p +ℤ q
+sum_endpoints : (p q r a b : ℤ) → r ≡ p +ℤ q
     → sum (between (in_61 (p -ℤ a)) (in_61 (p +ℤ a))) (between (in_61 (q -ℤ b)) (in_61 (q +ℤ b)))
     ⊆ between (in_61 (r -ℤ (a +ℤ b))) (in_61 (r +ℤ (a +ℤ b)))
 unfolding sum plus
-sum_ends p q r a b e = record {
-  ends = (
+sum_endpoints p q r a b e = record {
+  endpoints = (
     record { cross = omega (arith, ints, e) },
     record { cross = omega (arith, ints, e) },
   );
@@ -51,7 +51,7 @@ sum_ends p q r a b e = record {
 
 sum_around : (t s : ℤ) (v w : ℕ) (i j : Interval) → IsAround t v i → IsAround s w j
     → IsAround (t +ℤ s) (v + w) (sum i j)
-sum_around t s v w i j h k = within_trans (sum_within h k) (sum_ends (pos 45 *ℤ t) (pos 45 *ℤ s) _ (pos v) (pos w)
+sum_around t s v w i j h k = within_trans (sum_within h k) (sum_endpoints (pos 45 *ℤ t) (pos 45 *ℤ s) _ (pos v) (pos w)
     (omega (arith, ints)))
 
 turned_sum : (t s p q : ℤ) → (t +ℤ p *ℤ pos (2 ^ 64)) +ℤ (s +ℤ q *ℤ pos (2 ^ 64)) ≡ (t +ℤ s) +ℤ (p +ℤ q) *ℤ pos (2 ^ 64)
@@ -68,7 +68,7 @@ sum_near t s v w i j h k =
 
 -- ---- a quarter of a turn later
 quarter_around : IsAround (pos (2 ^ 62) +ℤ pos 0 *ℤ pos (2 ^ 64)) 0 (only (whole (pos 90)))
-quarter_around = record { ends = (record { cross = omega (arith, ints) }, record { cross = omega (arith, ints) }) }
+quarter_around = record { endpoints = (record { cross = omega (arith, ints) }, record { cross = omega (arith, ints) }) }
 
 no_wider : (w : ℕ) → w + 0 ≤ w
 no_wider w = omega arith
@@ -93,9 +93,9 @@ scaled_within : (z a b l u : ℤ) (i : Interval) → IsProper i → i ⊆ betwee
     → (b *ℤ z) ≤ℤ u → product i (exactly (whole z)) ⊆ between (in_61 l) (in_61 u)
 scaled_within z a b l u i p h al au bl bu =
     within_trans (product_within p (le_refl (whole z)) h (within_refl (exactly (whole z))))
-    (rw (product_ends (in_61 a) (in_61 b) (whole z))
+    (rw (product_endpoints (in_61 a) (in_61 b) (whole z))
     (record {
-      ends = (
+      endpoints = (
         least_keeps (λ x. in_61 l ≤F x) _ _ _ _ (times_above l a z al) (times_above l a z al) (times_above l b z bl)
             (times_above l b z bl),
         greatest_keeps (λ x. x ≤F in_61 u) _ _ _ _ (times_below u a z au) (times_below u a z au) (times_below u b z bu)
@@ -127,7 +127,7 @@ known_around lo hi w i l u h =
     record {
       turns = pos 0;
       around = within_trans h (record {
-        ends =
+        endpoints =
             (record { cross = omega (arith, ints, l) }, record { cross = omega (arith, ints, u) });
       });
     }
@@ -158,7 +158,7 @@ around_degrees : (t d : ℤ) (w : ℕ) (i : Interval) → (pos 32 *ℤ d) ≤ℤ
     → (pos 45 *ℤ t) ≤ℤ (pos 32 *ℤ d +ℤ pos 32) → IsAround t w i
     → i ⊆ between (units_of_56 (d -ℤ pos (w / 32 + 3))) (units_of_56 (d +ℤ pos (w / 32 + 3)))
 around_degrees t d w i l u h = within_trans h (record {
-  ends =
+  endpoints =
       (record { cross = omega (arith, ints, l, u) }, record { cross = omega (arith, ints, l, u) });
 })
 
@@ -197,7 +197,7 @@ turn_inside turn w middle lo hi i t a e h =
     record {
       turns = t.turns;
       around = within_trans h (record {
-        ends = (
+        endpoints = (
           record { cross = omega (arith, ints, a, e, t.below) },
           record { cross = omega (arith, ints, e, t.close) },
         );

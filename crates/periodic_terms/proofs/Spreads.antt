@@ -155,13 +155,13 @@ sine_there : (n d : ℕ) (lo hi : ℤ) → 40 ≤ n → d ≤ OCTANT → HasSine
     → sine_series n (between (in_radians d) (in_radians_above d)) ⊆ between (units_of_56 lo) (units_of_56 hi)
 unfolding sine_series
 sine_there n d lo hi l u h = rw (inside_in zero_F four_fifths (in_radians d) (in_radians_above d)
-    (record { above = none_below d; below = radians_small d u })) (record { ends = (h.low n l, h.high n l) })
+    (record { above = none_below d; below = radians_small d u })) (record { endpoints = (h.low n l, h.high n l) })
 
 cosine_there : (n d : ℕ) (lo hi : ℤ) → 40 ≤ n → d ≤ OCTANT → HasCosine d lo hi
     → cosine_series n (between (in_radians d) (in_radians_above d)) ⊆ between (units_of_56 lo) (units_of_56 hi)
 unfolding cosine_series
 cosine_there n d lo hi l u h = rw (inside_in zero_F four_fifths (in_radians d) (in_radians_above d)
-    (record { above = none_below d; below = radians_small d u })) (record { ends = (h.low n l, h.high n l) })
+    (record { above = none_below d; below = radians_small d u })) (record { endpoints = (h.low n l, h.high n l) })
 
 sine_holds : (n d : ℕ) (y : Fraction) (lo hi : ℤ) → 40 ≤ n → d ≤ OCTANT → y ≈ units_of_56 (pos d) → HasSine d lo hi
     → sine_series n (radians n y) ⊆ between (units_of_56 lo) (units_of_56 hi)

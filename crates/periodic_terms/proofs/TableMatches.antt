@@ -5,13 +5,13 @@ use Rattle.std.specs.Int.Signed.{le_z, le_z_yes}
 use Rattle.std.proofs.Common.{◌≡◌, ℕ, zero, suc, ◌^◌, ◌<◌, refl, arith, Bool, true, false, ℤ, pos, ◌+ℤ◌, ◌*ℤ◌, ◌≤ℤ◌, List, [], ◌∷◌, length, slice_index_or}
 use Rattle.std.proofs.lemmas.Float.{T_from_true}
 use Rattle.std.proofs.lemmas.Int.{ints}
-use Rattle.book_model.specs.declared.polynomial.Wave.{Wave}
-use Rattle.book_model.specs.numbers.Polynomials.{no_wave}
+use Rattle.book_model.specs.declared.polynomial.PeriodicTerm.{PeriodicTerm}
+use Rattle.book_model.specs.numbers.Polynomials.{no_periodic_term}
 use Rattle.periodic_terms.specs.Turning.{IsTurning, AreTurning}
-use Rattle.periodic_terms.specs.declared.wave_rows.TurningWave.{TurningWave}
+use Rattle.periodic_terms.specs.declared.rows_by_time.TurningTerm.{TurningTerm}
 
 -- ---- the tests
-abbrev pub is_turning : Wave → TurningWave → Bool
+abbrev pub is_turning : PeriodicTerm → TurningTerm → Bool
 is_turning v t =
     le_z t.size v.size && le_z v.size t.size && le_z (pos t.phase *ℤ pos 3600000000) (v.phase *ℤ pos (2 ^ 64)) && le_z
     (v.phase *ℤ pos (2 ^ 64))
@@ -19,7 +19,7 @@ is_turning v t =
     && le_z (t.rate *ℤ pos 16436250000000) (v.rate *ℤ pos (2 ^ 77)) && le_z (v.rate *ℤ pos (2 ^ 77))
     (t.rate *ℤ pos 16436250000000 +ℤ pos 16436250000000)
 
-abbrev pub all_turning : List Wave → List TurningWave → Bool
+abbrev pub all_turning : List PeriodicTerm → List TurningTerm → Bool
 all_turning [] [] = true
 all_turning [] (t ∷ ts) = false
 all_turning (v ∷ vs) [] = false
@@ -51,7 +51,7 @@ module _ (a b c d e f : Bool) (h : (a && b && c && d && e && f) ≡ true) where
       cases true true true true false f k = absurd (cc)
       cases true true true true true false k = absurd (cc)
 
-row_matches : (v : Wave) (t : TurningWave) → is_turning v t ≡ true → IsTurning v t
+row_matches : (v : PeriodicTerm) (t : TurningTerm) → is_turning v t ≡ true → IsTurning v t
 row_matches v t h =
     let k = all_six _ _ _ _ _ _ h in
     let p = le_true t.size v.size k.0 in
@@ -65,20 +65,20 @@ row_matches v t h =
           le_true _ _ k.5;
     }
 
-same_count : (vs : List Wave) (ts : List TurningWave) → all_turning vs ts ≡ true → length vs ≡ length ts
+same_count : (vs : List PeriodicTerm) (ts : List TurningTerm) → all_turning vs ts ≡ true → length vs ≡ length ts
 same_count [] [] h = refl
 same_count [] (t ∷ ts) h = absurd (cc)
 same_count (v ∷ vs) [] h = absurd (cc)
 same_count (v ∷ vs) (t ∷ ts) h = let e = same_count vs ts (second _ _ h) in omega (arith, e)
 
-rows_match : (vs : List Wave) (ts : List TurningWave) (i : ℕ) → all_turning vs ts ≡ true → i < length ts
-    → (none : TurningWave)
-    → IsTurning (slice_index_or vs i no_wave) (slice_index_or ts i none)
+rows_match : (vs : List PeriodicTerm) (ts : List TurningTerm) (i : ℕ) → all_turning vs ts ≡ true → i < length ts
+    → (none : TurningTerm)
+    → IsTurning (slice_index_or vs i no_periodic_term) (slice_index_or ts i none)
 rows_match [] [] i h l none = absurd (omega (arith, l))
 rows_match [] (t ∷ ts) i h l none = absurd (cc)
 rows_match (v ∷ vs) [] i h l none = absurd (cc)
 rows_match (v ∷ vs) (t ∷ ts) zero h l none = row_matches v t (first _ _ h)
 rows_match (v ∷ vs) (t ∷ ts) (suc i) h l none = rows_match vs ts i (second _ _ h) (omega (arith, l)) none
 
-pub tables_match : (vs : List Wave) (ts : List TurningWave) → all_turning vs ts ≡ true → AreTurning vs ts
+pub tables_match : (vs : List PeriodicTerm) (ts : List TurningTerm) → all_turning vs ts ≡ true → AreTurning vs ts
 tables_match vs ts h = record { count = same_count vs ts h; rows = λ i l none. rows_match vs ts i h l none }

@@ -15,12 +15,12 @@ use Rattle.book_model.specs.numbers.Octants.{cosine_of_degrees}
 use Rattle.book_model.specs.numbers.Terms.{times_power}
 use Rattle.book_model.specs.programs.Leading.{units_of_56}
 use Rattle.book_model.proofs.Values.{value_proper}
-use Rattle.trig_series.proofs.KernelAngles.{product_ends}
+use Rattle.trig_series.proofs.KernelAngles.{product_endpoints}
 use Rattle.trig_series.proofs.SineLemmas.{all_cosines_hold, all_hold, quarter_proper}
 use Rattle.periodic_terms.specs.Turning.{HasPoint, octant_of, degrees_of}
-use Rattle.periodic_terms.proofs.WaveRows.{corners, abs_above, abs_below}
+use Rattle.periodic_terms.proofs.RowsByTime.{corners, abs_above, abs_below}
 use Rattle.periodic_terms.specs.Angles.{IsFactor, IsNearTurn}
-use Rattle.periodic_terms.specs.Multiples.{in_93, around_93, AreKnown, IsSmallRow, IsTerm, factor_of, half_of, most_of, multiples_of, powered_of, radius_of, spread_by, sums_of, turns_of, wave_of}
+use Rattle.periodic_terms.specs.Multiples.{in_93, around_93, AreKnown, IsSmallRow, IsTerm, factor_of, half_of, most_of, multiples_of, powered_of, radius_of, spread_by, sums_of, turns_of, periodic_term_of}
 use Rattle.periodic_terms.specs.declared.term_rows.Multiples.{Multiples}
 use Rattle.periodic_terms.specs.declared.mean.MeanFactors.{MeanFactors}
 use Rattle.periodic_terms.specs.declared.mean.MeanTurn.{MeanTurn}
@@ -107,14 +107,14 @@ four_corners f h s r g a b c d e i =
       );
     }
 
-ends_within : (f h s r l u q o : ℤ) → (q *ℤ pos (2 ^ 19)) ≤ℤ l → u ≤ℤ (o *ℤ pos (2 ^ 19)) → AreCorners f h s r l u
+endpoints_within : (f h s r l u q o : ℤ) → (q *ℤ pos (2 ^ 19)) ≤ℤ l → u ≤ℤ (o *ℤ pos (2 ^ 19)) → AreCorners f h s r l u
     → product (between (units_of_56 (f -ℤ h)) (units_of_56 (f +ℤ h)))
     (between (units_of_56 (s -ℤ r)) (units_of_56 (s +ℤ r)))
     ⊆ between (in_93 0 q) (in_93 0 o)
 unfolding product
-ends_within f h s r l u q o a b c =
+endpoints_within f h s r l u q o a b c =
     record {
-      ends = (
+      endpoints = (
         least_keeps (λ x. in_93 0 q ≤F x) _ _ _ _ (product_above q l _ _ a c.ll.0) (product_above q l _ _ a c.lh.0)
             (product_above q l _ _ a c.hl.0)
             (product_above q l _ _ a c.hh.0),
@@ -143,9 +143,9 @@ sized_within u z p e i h k =
     let l = z *ℤ p -ℤ pos (unsigned_abs z) *ℤ pos e in
     let o = z *ℤ p +ℤ pos (unsigned_abs z) *ℤ pos e in
     within_trans (product_within h (le_refl v) k (within_refl (exactly v)))
-    (rw (product_ends (in_93 0 a) (in_93 0 b) v)
+    (rw (product_endpoints (in_93 0 a) (in_93 0 b) v)
     (record {
-      ends = (
+      endpoints = (
         least_keeps (λ x. in_93 u l ≤F x) _ _ _ _ (scaled_above u l a z c.0) (scaled_above u l a z c.0)
             (scaled_above u l b z c.2) (scaled_above u l b z c.2),
         greatest_keeps (λ x. x ≤F in_93 u o) _ _ _ _ (scaled_below u o a z c.1) (scaled_below u o a z c.1)
@@ -194,7 +194,7 @@ sine_wider : (s : ℤ) (m r : ℕ) (i : Interval) → m + 3 ≤ r → i ⊆ betw
     (units_of_56 ((s +ℤ pos 3) +ℤ pos m))
     → i ⊆ between (units_of_56 (s -ℤ pos r)) (units_of_56 (s +ℤ pos r))
 sine_wider s m r i h k = within_trans k (record {
-  ends = (
+  endpoints = (
     record { cross = omega (arith, ints, h) },
     record { cross = omega (arith, ints, h) },
   );
@@ -213,12 +213,12 @@ plain_within g s r i h k =
     let e : (pos (2 ^ 37) *ℤ pos r) ≤ℤ (pos g *ℤ pos r) =
     le_by (pos g ∷ pos r ∷ []) ((lit (pos (2 ^ 37)) ≼ at 0) ∷ (lit (pos 0) ≼ at 1) ∷ []) (lit (pos
     (2 ^ 37)) ⊗ at 1) (at 0 ⊗ at 1) (known 0 ⊠ known 1) refl (omega (arith, ints, h), (pos_nonneg r, tt)) in
-    ends_of (pos g *ℤ pos r) e k
+    endpoints_of (pos g *ℤ pos r) e k
   where
-    ends_of : (m : ℤ) → (pos (2 ^ 37) *ℤ pos r) ≤ℤ m → i ⊆ between (units_of_56 (s -ℤ pos r)) (units_of_56 (s +ℤ pos r))
+    endpoints_of : (m : ℤ) → (pos (2 ^ 37) *ℤ pos r) ≤ℤ m → i ⊆ between (units_of_56 (s -ℤ pos r)) (units_of_56 (s +ℤ pos r))
         → i ⊆ between (in_93 0 (pos (2 ^ 37) *ℤ s -ℤ (m +ℤ pos 0))) (in_93 0 (pos (2 ^ 37) *ℤ s +ℤ (m +ℤ pos 0)))
-    ends_of m e k = within_trans k (record {
-      ends = (
+    endpoints_of m e k = within_trans k (record {
+      endpoints = (
         record { cross = omega (arith, ints, e) },
         record { cross = omega (arith, ints, e) },
       );
@@ -258,7 +258,7 @@ powered_within f h g s q r i j p o a b c d l u k m =
     (pos_nonneg r) c d in
     let x = (pos g *ℤ pos (2 ^ 19)) *ℤ pos r in
     let e = in_order (pos g) (pos r) in
-    within_trans (product_within p o k m) (ends_within (pos f) (pos h) s (pos r) _ _
+    within_trans (product_within p o k m) (endpoints_within (pos f) (pos h) s (pos r) _ _
     (pos (2 ^ 37) *ℤ q -ℤ pos (g * r + (h + 1) * 2 ^ 37)) (pos (2 ^ 37) *ℤ q
     +ℤ pos (g * r + (h + 1) * 2 ^ 37)) (low_fits (pos f *ℤ s) q x (g * r) h e l)
     (high_fits (pos f *ℤ s) q x (g * r) h e u) corners)
@@ -286,19 +286,19 @@ power_within w t (suc (suc zero)) factor x s q r few a b l u f g h =
 power_within w t (suc (suc (suc k))) factor x s q r few a b l u f g h = absurd (omega (arith, few))
 
 -- ---- the sine or the cosine at a turn
-wave_within : (w : World) (q : ℕ) (x : Expression) (turn : ℕ) (t z s : ℤ) (h : ℕ) → q ≤ 1 → 40 ≤ w.depth → turn < 2 ^ 64
+periodic_term_within : (w : World) (q : ℕ) (x : Expression) (turn : ℕ) (t z s : ℤ) (h : ℕ) → q ≤ 1 → 40 ≤ w.depth → turn < 2 ^ 64
     → pos turn ≡ (t +ℤ pos (q * 2 ^ 62)) -ℤ z *ℤ pos (2 ^ 64) → h ≤ 2 ^ 65
     → HasPoint (octant_of turn) (degrees_of turn) (s -ℤ pos 3) (s +ℤ pos 3) → IsNearTurn t h (value w x)
-    → value w (wave_of q x) ⊆ between (units_of_56 ((s -ℤ pos 3) -ℤ pos (sine_width h)))
+    → value w (periodic_term_of q x) ⊆ between (units_of_56 ((s -ℤ pos 3) -ℤ pos (sine_width h)))
     (units_of_56 ((s +ℤ pos 3) +ℤ pos (sine_width h)))
 unfolding value cosine_of_degrees
-wave_within w zero x turn t z s h few deep fits e small point near =
+periodic_term_within w zero x turn t z s h few deep fits e small point near =
     sine_of_near w.depth turn t z s h (value w x) deep (value_proper w x) fits (omega (arith, ints, e)) small point near
-wave_within w (suc zero) x turn t z s h few deep fits e small point near =
+periodic_term_within w (suc zero) x turn t z s h few deep fits e small point near =
     sine_of_near w.depth turn (t +ℤ pos (2 ^ 62)) z s h _ deep (quarter_proper (value w x) (value_proper w x)) fits
     (omega (arith, ints, e)) small point
     (quarter_near t h (value w x) near)
-wave_within w (suc (suc q)) x turn t z s h few deep fits e small point near = absurd (omega (arith, few))
+periodic_term_within w (suc (suc q)) x turn t z s h few deep fits e small point near = absurd (omega (arith, few))
 
 -- ---- a row
 nat_eq : (m n : ℕ) → pos m ≡ pos n → m ≡ n
@@ -373,25 +373,25 @@ pub row_holds : (w : World) (u : ℕ) (t : MeanTurns) (r : Multiples) (x : Expre
 unfolding value
 row_holds w u t r x turn z s q y deep all small h k l v e =
     let m = sine_radius t r in
-    let wave = wave_of r.quarters k.angle in
-    let near = wave_within w r.quarters k.angle turn (multiples_of t r) z s (half_of t r) small.quarters deep h.fits
+    let periodic_term = periodic_term_of r.quarters k.angle in
+    let near = periodic_term_within w r.quarters k.angle turn (multiples_of t r) z s (half_of t r) small.quarters deep h.fits
     h.reduced (width_bound t r small) h.point
     (k.near all) in
-    let there = sine_wider s (sine_width (half_of t r)) m (value w wave) (radius_enough t r) near in
-    let powered = power_within w t r.power k.factor wave s q m small.power h.greatest h.least l v k.first k.second there
+    let there = sine_wider s (sine_width (half_of t r)) m (value w periodic_term) (radius_enough t r) near in
+    let powered = power_within w t r.power k.factor periodic_term s q m small.power h.greatest h.least l v k.first k.second there
     in
     let n = t.factors.greatest * m + width_of t r.power * 2 ^ 37 in
-    let sized = sized_within u r.size (pos (2 ^ 37) *ℤ q) n (value w (times_power k.factor r.power wave))
+    let sized = sized_within u r.size (pos (2 ^ 37) *ℤ q) n (value w (times_power k.factor r.power periodic_term))
     (value_proper w
-    (times_power k.factor r.power wave)) powered in
+    (times_power k.factor r.power periodic_term)) powered in
     rw (e, k.is, ← radius_is t r) sized
 
 -- ---- what a row is at most, whatever its angle
-wave_most : (w : World) (q : ℕ) (x : Expression)
-    → value w (wave_of q x) ⊆ between (units_of_56 (pos 0 -ℤ pos (2 ^ 56))) (units_of_56 (pos 0 +ℤ pos (2 ^ 56)))
+term_most : (w : World) (q : ℕ) (x : Expression)
+    → value w (periodic_term_of q x) ⊆ between (units_of_56 (pos 0 -ℤ pos (2 ^ 56))) (units_of_56 (pos 0 +ℤ pos (2 ^ 56)))
 unfolding value
-wave_most w zero x = all_hold w.depth (value w x) _ _ (value_proper w x) refl refl
-wave_most w (suc q) x = all_cosines_hold w.depth (value w x) _ _ (value_proper w x) refl refl
+term_most w zero x = all_hold w.depth (value w x) _ _ (value_proper w x) refl refl
+term_most w (suc q) x = all_cosines_hold w.depth (value w x) _ _ (value_proper w x) refl refl
 
 -- the greatest factor of a power
 abbrev top_of : MeanFactors → ℕ → ℕ
@@ -401,7 +401,7 @@ top_of f (suc k) = f.greatest
 plain_most : (i : Interval) → i ⊆ between (units_of_56 (pos 0 -ℤ pos (2 ^ 56))) (units_of_56 (pos 0 +ℤ pos (2 ^ 56)))
     → i ⊆ around_93 0 (pos 0) (2 ^ 37 * 2 ^ 56)
 plain_most i k = within_trans k (record {
-  ends = (
+  endpoints = (
     record { cross = omega (arith, ints) },
     record { cross = omega (arith, ints) },
   );
@@ -420,7 +420,7 @@ powered_most : (f h g : ℕ) (i j : Interval) → IsProper i → IsProper j → 
     → j ⊆ between (units_of_56 (pos 0 -ℤ pos (2 ^ 56))) (units_of_56 (pos 0 +ℤ pos (2 ^ 56)))
     → product i j ⊆ around_93 0 (pos 0) (g * 2 ^ 56)
 powered_most f h g i j p q a b k m =
-    within_trans (product_within p q k m) (ends_within (pos f) (pos h) (pos 0) (pos (2 ^ 56)) _ _
+    within_trans (product_within p q k m) (endpoints_within (pos f) (pos h) (pos 0) (pos (2 ^ 56)) _ _
     (pos 0 -ℤ pos (g * 2 ^ 56)) (pos 0 +ℤ pos (g * 2 ^ 56))
     (omega (arith, ints)) (omega (arith, ints)) (most_corners (pos f) (pos h) (pos g) (omega (arith, ints, a))
     (omega (arith, ints, b)) (pos_nonneg h)))
@@ -470,10 +470,10 @@ pub row_most : (w : World) (u : ℕ) (t : MeanTurns) (r : Multiples) (x : Expres
     → value w x ⊆ around_93 u (pos 0) (most_of t.factors (sums_of r))
 unfolding value
 row_most w u t r x small k =
-    let wave = wave_of r.quarters k.angle in
-    let powered = power_most w t.factors r.power k.factor wave small.power k.first k.second
-    (wave_most w r.quarters k.angle) in
+    let periodic_term = periodic_term_of r.quarters k.angle in
+    let powered = power_most w t.factors r.power k.factor periodic_term small.power k.first k.second
+    (term_most w r.quarters k.angle) in
     let sized = sized_within u r.size (pos 0) (top_of t.factors r.power * 2 ^ 56)
-    (value w (times_power k.factor r.power wave)) (value_proper w
-    (times_power k.factor r.power wave)) powered in
+    (value w (times_power k.factor r.power periodic_term)) (value_proper w
+    (times_power k.factor r.power periodic_term)) powered in
     rw (k.is, ← most_is t.factors r) (rw (times_none r.size) at sized)

@@ -20,7 +20,7 @@ use Rattle.periodic_terms.specs.declared.term_sums.RowSums.{RowSums}
 pub span_holds : (lo hi a b : ℤ) → (a *ℤ pos (2 ^ 37)) ≤ℤ lo → hi <ℤ (b *ℤ pos (2 ^ 37) +ℤ pos (2 ^ 37))
     → between (in_93 0 lo) (in_93 0 hi) ⊆ between (units_of_56 a) (units_of_56 (b +ℤ pos 1))
 span_holds lo hi a b l u = record {
-  ends = (
+  endpoints = (
     record { cross = omega (arith, ints, l) },
     record { cross = omega (arith, ints, u) },
   );
@@ -31,7 +31,7 @@ pub parts_hold : (lo hi p q a b : ℤ) → (p *ℤ pos (2 ^ 37)) ≤ℤ lo → h
     → q <ℤ (b *ℤ pos 100000 +ℤ pos 100000)
     → between (in_93 99999 lo) (in_93 99999 hi) ⊆ between (units_of_56 a) (units_of_56 (b +ℤ pos 1))
 parts_hold lo hi p q a b l u m v = record {
-  ends = (
+  endpoints = (
     record { cross = omega (arith, ints, l, m) },
     record { cross = omega (arith, ints, u, v) },
   );
@@ -47,17 +47,17 @@ within_cut : (u : ℕ) (m : ℕ) (lo hi : ℤ) (i : Interval) → i ⊆ between 
     → i ⊆ around_93 u (pos 0) m
     → i ⊆ between (in_93 u (int_min (int_max lo (neg_ℤ (pos m))) (pos m)))
     (in_93 u (int_min (int_max hi (neg_ℤ (pos m))) (pos m)))
-within_cut u m lo hi everything h k = absurd h.ends
+within_cut u m lo hi everything h k = absurd h.endpoints
 within_cut u m lo hi (between a b) h k =
     let least : in_93 u (neg_ℤ (pos m)) ≤F a = le_trans _ _ a
-    (order_93 u (neg_ℤ (pos m)) (pos 0 -ℤ pos m) (omega (arith, ints))) k.ends.0 in
-    let most : b ≤F in_93 u (pos m) = le_trans b _ _ k.ends.1
+    (order_93 u (neg_ℤ (pos m)) (pos 0 -ℤ pos m) (omega (arith, ints))) k.endpoints.0 in
+    let most : b ≤F in_93 u (pos m) = le_trans b _ _ k.endpoints.1
     (order_93 u (pos 0 +ℤ pos m) (pos m) (omega (arith, ints))) in
-    let low = by_max lo (neg_ℤ (pos m)) (int_max lo (neg_ℤ (pos m))) (λ z. in_93 u z ≤F a) refl h.ends.0 least in
-    let high : b ≤F in_93 u (int_max hi (neg_ℤ (pos m))) = le_trans b (in_93 u hi) _ h.ends.1
+    let low = by_max lo (neg_ℤ (pos m)) (int_max lo (neg_ℤ (pos m))) (λ z. in_93 u z ≤F a) refl h.endpoints.0 least in
+    let high : b ≤F in_93 u (int_max hi (neg_ℤ (pos m))) = le_trans b (in_93 u hi) _ h.endpoints.1
     (order_93 u hi _ (omega (arith, ints, clamps))) in
     record {
-      ends = (
+      endpoints = (
         le_trans _ _ a (order_93 u _ (int_max lo (neg_ℤ (pos m))) (omega (arith, ints, clamps))) low,
         by_min (int_max hi (neg_ℤ (pos m))) (pos m) (int_min (int_max hi (neg_ℤ (pos m))) (pos m)) (λ z. b ≤F in_93 u z)
             refl high most,
@@ -72,7 +72,7 @@ cut_inside u m lo hi p q r i e f g h k = rw (f, g, e) (within_cut u m lo hi i h 
 pub most_inside : (u m : ℕ) (r : ℤ) (i : Interval) → r ≡ pos m → i ⊆ around_93 u (pos 0) m
     → i ⊆ between (in_93 u (pos 0 -ℤ r)) (in_93 u r)
 most_inside u m r i e k = rw e (within_trans k (record {
-  ends =
+  endpoints =
       (order_93 u _ _ (omega (arith, ints)), order_93 u _ _ (omega (arith, ints)));
 }))
 

@@ -41,7 +41,7 @@ sum_around : (u : ℕ) (a b : ℤ) (d e n : ℕ) → n ≡ d + e → sum (around
     (a +ℤ b) n
 unfolding sum
 sum_around u a b d e n h = record {
-  ends = (
+  endpoints = (
     plus_above u _ _ _ (omega (arith, ints, h)),
     plus_below u _ _ _ (omega (arith, ints, h)),
   );
@@ -114,7 +114,7 @@ module _ {T : Type 0} (w : World) (u : ℕ) (t : MeanTurns) (row_of : T → Mult
 
   pub none_around : IsSum 0 (pos 0)
   unfolding value terms_to sums_to
-  none_around = record { ends = (zero_below u _ (none_of t), zero_above u _ (none_of t)) }
+  none_around = record { endpoints = (zero_below u _ (none_of t), zero_above u _ (none_of t)) }
 
   abbrev row : ℕ → Multiples
   row i = row_of (slice_index_or rows i none)
@@ -147,7 +147,7 @@ module _ {T : Type 0} (w : World) (u : ℕ) (t : MeanTurns) (row_of : T → Mult
 
   none_most : IsMost 0
   unfolding value terms_to sums_to
-  none_most = record { ends = (zero_below u _ (no_most t.factors), zero_above u _ (no_most t.factors)) }
+  none_most = record { endpoints = (zero_below u _ (no_most t.factors), zero_above u _ (no_most t.factors)) }
 
   more_most : (i : ℕ) → IsMost i → value w (term (slice_index_or rows i none)) ⊆ around_93 u (pos 0)
       (most_of t.factors (sums_of (row i)))

@@ -56,9 +56,9 @@ abbrev pub turns_of : MeanTurns → Multiples → ℤ
 turns_of t r = multiples_of t r +ℤ pos (r.quarters * 2 ^ 62)
 
 -- the sine of an angle, or the cosine, which is the sine a quarter of a turn later
-abbrev pub wave_of : ℕ → Expression → Expression
-wave_of zero x = sine x
-wave_of (suc k) x = cosine x
+abbrev pub periodic_term_of : ℕ → Expression → Expression
+periodic_term_of zero x = sine x
+periodic_term_of (suc k) x = cosine x
 
 -- all four are known
 pub record AreKnown (t : MeanTurns) : Type 0 where
@@ -72,7 +72,7 @@ pub record AreKnown (t : MeanTurns) : Type 0 where
 pub record IsTerm (w : World) (u : ℕ) (t : MeanTurns) (r : Multiples) (x : Expression) : Type 0 where
   pub factor : Expression
   pub angle : Expression
-  pub is : x ≡ scale (record { num = r.size; below = u }) (times_power factor r.power (wave_of r.quarters angle))
+  pub is : x ≡ scale (record { num = r.size; below = u }) (times_power factor r.power (periodic_term_of r.quarters angle))
   pub near : AreKnown t → IsNearTurn (multiples_of t r) (half_of t r) (value w angle)
   pub first : r.power ≡ 1 → IsFactor t.factors.first t.factors.wide (value w factor)
   pub second : r.power ≡ 2 → IsFactor t.factors.second t.factors.wide (value w (power factor 2))

@@ -6,13 +6,13 @@ use Rattle.book_model.specs.Fraction.{◌≤F◌, whole, floor_quotient}
 use Rattle.book_model.specs.Sums.{lower, upper}
 use Rattle.book_model.specs.programs.Leading.{units_of_56}
 use Rattle.book_model.specs.numbers.Series.{sine_term, cosine_term}
-use Rattle.book_model.specs.declared.polynomial.Wave.{Wave}
+use Rattle.book_model.specs.declared.polynomial.PeriodicTerm.{PeriodicTerm}
 use Rattle.book_model.specs.numbers.Expressions.{Expression, constant, add, scale, sine}
 use Rattle.book_model.specs.numbers.Fractions.{ten_millionths, daily_ten_millionths}
-use Rattle.book_model.specs.numbers.Polynomials.{no_wave}
+use Rattle.book_model.specs.numbers.Polynomials.{no_periodic_term}
 use Rattle.encl_core.specs.parts.TheConstants.{OCTANT}
 use Rattle.trig_series.specs.Kernel.{in_radians, in_radians_above}
-use Rattle.periodic_terms.specs.declared.wave_rows.TurningWave.{TurningWave}
+use Rattle.periodic_terms.specs.declared.rows_by_time.TurningTerm.{TurningTerm}
 
 -- the sums of the sine of d degrees, in units of 2^-56, lie from lo to hi, in the same units
 pub record HasSine (d : ℕ) (lo hi : ℤ) : Type 0 where
@@ -42,7 +42,7 @@ degrees_of t = (t - t / 2 ^ 61 * 2 ^ 61) * 45 / 32
 
 -- a periodic term as it is summed: its size; its phase in 2^-64 turns, and its rate in 2^-80 turns a day, both rounded
 -- down. A turn a day is 8 * 16436250000000 of a rate, so that 2^-80 turns are that over 2^77
-pub record IsTurning (v : Wave) (t : TurningWave) : Type 0 where
+pub record IsTurning (v : PeriodicTerm) (t : TurningTerm) : Type 0 where
   pub size : t.size ≡ v.size
   pub phase_below : (pos t.phase *ℤ pos 3600000000) ≤ℤ (v.phase *ℤ pos (2 ^ 64))
   pub phase_close : (v.phase *ℤ pos (2 ^ 64)) ≤ℤ (pos t.phase *ℤ pos 3600000000 +ℤ pos 3600000000)
@@ -50,35 +50,35 @@ pub record IsTurning (v : Wave) (t : TurningWave) : Type 0 where
   pub rate_close : (v.rate *ℤ pos (2 ^ 77)) ≤ℤ (t.rate *ℤ pos 16436250000000 +ℤ pos 16436250000000)
 
 -- the same of all rows of two tables
-pub record AreTurning (vs : List Wave) (ts : List TurningWave) : Type 0 where
+pub record AreTurning (vs : List PeriodicTerm) (ts : List TurningTerm) : Type 0 where
   pub count : length vs ≡ length ts
-  pub rows : (i : ℕ) → i < length ts → (none : TurningWave)
-      → IsTurning (slice_index_or vs i no_wave) (slice_index_or ts i none)
+  pub rows : (i : ℕ) → i < length ts → (none : TurningTerm)
+      → IsTurning (slice_index_or vs i no_periodic_term) (slice_index_or ts i none)
 
 -- what a periodic term adds, by the days
-unfoldable pub turning_wave_of : Expression → Wave → Expression
-turning_wave_of x v = scale (whole v.size) (sine (add (constant (ten_millionths v.phase))
+unfoldable pub turning_term_of : Expression → PeriodicTerm → Expression
+turning_term_of x v = scale (whole v.size) (sine (add (constant (ten_millionths v.phase))
     (scale (daily_ten_millionths v.rate) x)))
 
 -- how far what a periodic term adds is off at most, in 2^-56, for days that are at most w off, in 2^-56: its angle moves by rate
 -- * w, and its sine by a 57th of that; 20819250000000 is 57 * 365250000000. The roundings of a row are 28
-abbrev pub radius_of : Wave → ℕ → ℕ
+abbrev pub radius_of : PeriodicTerm → ℕ → ℕ
 radius_of v w = unsigned_abs v.size * (unsigned_abs v.rate * w / 20819250000000 + 28)
 
 -- the same of the sum of the first n periodic terms
-unfoldable pub radius_to : List Wave → ℕ → ℕ → ℕ
+unfoldable pub radius_to : List PeriodicTerm → ℕ → ℕ → ℕ
 radius_to vs w zero = 0
-radius_to vs w (suc n) = radius_to vs w n + radius_of (slice_index_or vs n no_wave) w
+radius_to vs w (suc n) = radius_to vs w n + radius_of (slice_index_or vs n no_periodic_term) w
 
 -- the sums of the sizes, and of their products with the rates, of the first n periodic terms
-unfoldable pub sizes_to : List Wave → ℕ → ℕ
+unfoldable pub sizes_to : List PeriodicTerm → ℕ → ℕ
 sizes_to vs zero = 0
-sizes_to vs (suc n) = sizes_to vs n + unsigned_abs (slice_index_or vs n no_wave).size
+sizes_to vs (suc n) = sizes_to vs n + unsigned_abs (slice_index_or vs n no_periodic_term).size
 
-unfoldable pub reach_to : List Wave → ℕ → ℕ
+unfoldable pub reach_to : List PeriodicTerm → ℕ → ℕ
 reach_to vs zero = 0
-reach_to vs (suc n) = reach_to vs n + unsigned_abs (slice_index_or vs n no_wave).size * unsigned_abs
-    (slice_index_or vs n no_wave).rate
+reach_to vs (suc n) = reach_to vs n + unsigned_abs (slice_index_or vs n no_periodic_term).size * unsigned_abs
+    (slice_index_or vs n no_periodic_term).rate
 
 -- the part of a turn, in 2^-64, that a rate in 2^-80 turns makes of days in units of 2^-48
 abbrev pub turn_part : (rate mid : ℤ) → ℤ
@@ -98,7 +98,7 @@ pub record AreNear (mid : ℤ) (w : ℕ) (lo hi : ℤ) : Type 0 where
 
 -- a slope in units of 2^-32 is at least a 57th of the sum of the sizes times the rates a day, in degrees, and the sizes add up
 -- to no more than this
-pub record HasReach (vs : List Wave) (slope sizes : ℕ) : Type 0 where
+pub record HasReach (vs : List PeriodicTerm) (slope sizes : ℕ) : Type 0 where
   pub reach : (pos (reach_to vs (length vs)) *ℤ pos (2 ^ 32)) ≤ℤ (pos slope *ℤ pos 20819250000000)
   pub total : pos (sizes_to vs (length vs)) ≤ℤ pos sizes
 

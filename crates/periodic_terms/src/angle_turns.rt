@@ -12,8 +12,8 @@ ghost use Rattle.periodic_terms.specs.Multiples.{AreTurns, AreTwoTurns};
 ghost use Rattle.periodic_terms.specs.Widths.{AreClose, AreTurnsWithin, IsFactorSpan, IsFactorWithin, IsTurnWithin, IsUsualEccentricity, IsUsualFactor};
 
 use crate::mean::{MeanAngles, MeanFactor, MeanFactors, MeanTurn, MeanTurns};
+use crate::rows_by_time::low_64;
 use crate::term_rows::{ONE, UNIT};
-use crate::wave_rows::low_64;
 use encl_core::{Enclosure, Span};
 
 /// 2²⁵ degrees, in units of 2⁻⁵⁶.

@@ -6,8 +6,8 @@
 //!
 //! The terms of the sun and of the planets go by the days: each has a phase and a rate.
 //!
-//! - `sum_of_waves`: the sum of the rows of a table over days as an enclosure of any kind, and `sum_over` over a span of days;
-//! - `TurningWave`: a row by turns and days;
+//! - `sum_of_periodic_terms`: the sum of the rows of a table over days as an enclosure of any kind, and `sum_over` over a span of days;
+//! - `TurningTerm`: a row by turns and days;
 //! - `sine_at_turn`: the sine at an angle that counts parts of a turn.
 //!
 //! The terms of the moon go by a few mean angles: each takes multiples of these, and a power of the eccentricity's factor.
@@ -23,24 +23,24 @@
 #![tactic(auto)]
 
 mod angle_turns;
+mod by_time;
 mod mean;
+mod rows_by_time;
 mod sines;
+mod spans_by_time;
+mod sums_by_time;
 mod tables;
 mod term_rows;
 mod term_spans;
 mod term_sums;
-mod wave_rows;
-mod wave_spans;
-mod wave_sums;
-mod waves;
 mod whole;
 
+pub use by_time::sum_of_periodic_terms;
 pub use mean::MeanAngles;
+pub use rows_by_time::TurningTerm;
 pub use sines::sine_at_turn;
+pub use spans_by_time::sum_over;
 pub use tables::{
     distance_terms, greatest_terms, latitude_terms, longitude_terms, new_moon_terms, other_terms,
 };
 pub use trig_series::{cos_deg, pi, sin_deg, tan_deg};
-pub use wave_rows::TurningWave;
-pub use wave_spans::sum_over;
-pub use waves::sum_of_waves;

@@ -8,8 +8,8 @@ ghost use Rattle.periodic_terms.specs.declared.term_rows.Multiples.{Multiples};
 ghost use Rattle.periodic_terms.specs.Multiples.{AreKnown, IsSmallRow, IsTerm, around_93, factor_of, multiples_of, radius_of, sums_of, turns_of};
 
 use crate::mean::{MeanFactors, MeanTurns};
+use crate::rows_by_time::low_64;
 use crate::sines::sine_at_turn;
-use crate::wave_rows::low_64;
 
 /// A quarter of a turn, in 2⁻⁶⁴ turns.
 const QUARTER: i128 = 1 << 62;

@@ -17,14 +17,14 @@ use Rattle.book_model.specs.declared.fail.Fail.TheVariants.{Undecided as undecid
 use Rattle.book_model.specs.declared.fail.Undecided.{Undecided}
 use Rattle.book_model.specs.declared.site.Site.{Site}
 use Rattle.book_model.specs.numbers.Expressions.{Expression, World, value, exactly, integer, add}
-use Rattle.book_model.specs.programs.Leading.{units_of_56, AreNoBounds, AreEnds, bounds, no_bounds, IsOpenCell, between_cells, too_far, Exact, Leads, next_turn}
+use Rattle.book_model.specs.programs.Leading.{units_of_56, AreNoBounds, AreEndpoints, bounds, no_bounds, IsUndecidedCell, between_cells, too_far, Exact, Leads, next_turn}
 use Rattle.book_model.specs.programs.Programs.{answer, cell, integers, cell_of, cell_at, when, AtMost, answer_at_most, cell_at_most}
 use Rattle.book_model.specs.numbers.Relations.{Within}
 use Rattle.book_model.proofs.FactRuns.{when_some}
-use Rattle.book_model.proofs.Leads.{leads_cell, leads_open_cell, leads_answer, leads_stop_at, few_tests, lies}
+use Rattle.book_model.proofs.Leads.{leads_cell, leads_undecided_cell, leads_answer, leads_stop_at, few_tests, lies}
 use Rattle.book_model.proofs.Early.{from_one}
 use Rattle.encl_core.specs.parts.TheConstants.{ONE}
-use Rattle.encl_core.specs.Steps.{IsOpenFloor}
+use Rattle.encl_core.specs.Steps.{IsUndecidedFloor}
 use Rattle.rise_set.specs.Moved.{AreMoved, by_whole, to_no_bounds, IsBeside, IsTooFar, AreOf128Bits}
 
 -- ---- floors
@@ -84,10 +84,10 @@ end_beside : (k n m : ℤ) → m ≡ n +ℤ k *ℤ ONE → units_of_56 m ≈ plu
 unfolding plus
 end_beside k n m e = record { cross = omega (arith, ints, e) }
 
-ends_beside : (k lo hi low high : ℤ) (a b : Fraction) → low ≡ lo +ℤ k *ℤ ONE → high ≡ hi +ℤ k *ℤ ONE → units_of_56 lo ≈ a → units_of_56 hi ≈ b
-    → AreEnds low high (sum (exactly (whole k)) (between a b))
+endpoints_beside : (k lo hi low high : ℤ) (a b : Fraction) → low ≡ lo +ℤ k *ℤ ONE → high ≡ hi +ℤ k *ℤ ONE → units_of_56 lo ≈ a → units_of_56 hi ≈ b
+    → AreEndpoints low high (sum (exactly (whole k)) (between a b))
 unfolding sum
-ends_beside k lo hi low high a b e f g h = bounds (same_trans (end_beside k lo low e) (plus_cong (same_refl (whole k)) g))
+endpoints_beside k lo hi low high a b e f g h = bounds (same_trans (end_beside k lo low e) (plus_cong (same_refl (whole k)) g))
     (same_trans (end_beside k hi high f) (plus_cong (same_refl (whole k)) h))
 
 -- ---- the test
@@ -103,13 +103,13 @@ decided_beside w k x i s q b a h d n = rw n (leads_cell s integers (add (integer
 far_beside : (w : World) (k : ℤ) (x : Expression) (i : Interval) (s : Site) (q : ℤ) (b a : ℕ) (u : Undecided) → value w x ⊆ i → cell_at integers i ≡ Some q
     → ¬ FitsSigned w64 (k +ℤ q) → AreNoBounds u.lo u.hi → u.site ≡ s → u.turn ≡ next_turn b → a ≡ next_turn b
     → Leads w (Exact {A = ℤ}) (cell s integers (add (integer k) x) answer) b a (Err (undecided_at u))
-far_beside w k x i s q b a u h d f e p n m = rw (← p) (leads_open_cell integers (add (integer k) x) (sum (exactly (whole k)) i) answer a u
+far_beside w k x i s q b a u h d f e p n m = rw (← p) (leads_undecided_cell integers (add (integer k) x) (sum (exactly (whole k)) i) answer a u
     (within_beside w k x i h) n m (too_far (k +ℤ q) (cell_beside k i q d) f e))
 
 open_anywhere : (w : World) (x : Expression) (b a : ℕ) (u : Undecided) → AreNoBounds u.lo u.hi → u.turn ≡ next_turn b → a ≡ next_turn b
     → Leads w (Exact {A = ℤ}) (cell u.site integers x answer) b a (Err (undecided_at u))
 unfolding cell_at
-open_anywhere w x b a u e n m = leads_open_cell integers x everything answer a u (within_everything _) n m (between_cells refl (no_bounds e))
+open_anywhere w x b a u e n m = leads_undecided_cell integers x everything answer a u (within_everything _) n m (between_cells refl (no_bounds e))
 
 -- the bounds that stand for an unbounded test stay so where they are moved
 stays_unbounded : (k lo hi low high : ℤ) → AreNoBounds lo hi → low ≡ lo +ℤ k *ℤ ONE → high ≡ hi +ℤ k *ℤ ONE → negsuc (2 ^ 127 - 1) ≤ℤ low
@@ -119,13 +119,13 @@ stays_unbounded k lo hi low high n e f p q = record {
   greatest = omega (arith, ints, n.least, n.greatest, e, f, p, q);
 }
 
-open_beside : (w : World) (k : ℤ) (x : Expression) (i : Interval) (lo hi : ℤ) (b a : ℕ) (v : Undecided) → value w x ⊆ i → IsOpenCell integers i lo hi
+open_beside : (w : World) (k : ℤ) (x : Expression) (i : Interval) (lo hi : ℤ) (b a : ℕ) (v : Undecided) → value w x ⊆ i → IsUndecidedCell integers i lo hi
     → AreMoved k lo hi v.lo v.hi → negsuc (2 ^ 127 - 1) ≤ℤ v.lo → v.hi ≤ℤ pos (2 ^ 127 - 1) → v.turn ≡ next_turn b → a ≡ next_turn b
     → Leads w (Exact {A = ℤ}) (cell v.site integers (add (integer k) x) answer) b a (Err (undecided_at v))
 open_beside w k x i lo hi b a v h o (to_no_bounds e) p q n m = open_anywhere w _ b a v e n m
 open_beside w k x (between c d) lo hi b a v h (between_cells o (bounds g j)) (by_whole e f) p q n m =
-    leads_open_cell integers (add (integer k) x) (sum (exactly (whole k)) (between c d)) answer a v (within_beside w k x (between c d) h) n m
-    (between_cells (no_cell_beside k (between c d) o) (ends_beside k lo hi v.lo v.hi c d e f g j))
+    leads_undecided_cell integers (add (integer k) x) (sum (exactly (whole k)) (between c d)) answer a v (within_beside w k x (between c d) h) n m
+    (between_cells (no_cell_beside k (between c d) o) (endpoints_beside k lo hi v.lo v.hi c d e f g j))
 open_beside w k x everything lo hi b a v h (between_cells o (no_bounds z)) (by_whole e f) p q n m = open_anywhere w _ b a v
     (stays_unbounded k lo hi v.lo v.hi z e f p q) n m
 open_beside w k x i lo hi b a v h (too_far r o t z) (by_whole e f) p q n m = open_anywhere w _ b a v (stays_unbounded k lo hi v.lo v.hi z e f p q) n m
@@ -153,7 +153,7 @@ turn_of_floor {w = w} {s = s} {x = x} l =
 
 pub leads_failing : {E : Type 0} {shown : E → Interval} {w : World} {x : Expression} {y : E} (k : ℤ) (s : Site) (f g : Fail) (b a : ℕ) → Within shown w x y
     → Leads w (Exact {A = ℤ}) (cell s integers x answer) b a (Err f) → a ≡ next_turn b
-    → IsOpenFloor (shown y) s f → IsBeside k f g → AreOf128Bits g → Leads w (Exact {A = ℤ}) (cell s integers (add (integer k) x) answer) b a (Err g)
+    → IsUndecidedFloor (shown y) s f → IsBeside k f g → AreOf128Bits g → Leads w (Exact {A = ℤ}) (cell s integers (add (integer k) x) answer) b a (Err g)
 leads_failing {w = w} {x = x} k s (undecided_at u) (undecided_at v) b a h l c o m r =
     let same : v.site ≡ s = m.1 ∙ o.1 in
     rw (← same) (open_beside w k x _ u.lo u.hi b a v (lies h) o.0 m.2 r.0 r.1 (m.0 ∙ turn_of_floor l) c)

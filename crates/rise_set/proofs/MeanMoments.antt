@@ -45,13 +45,13 @@ dated_by : (v m : ℕ) (i a j u : Interval) → sum i (negative a) ⊆ u → IsP
 unfolding sum negative IsNarrow
 dated_by v m everything a j u s o n k h t = tt
 dated_by v m (between p q) a j everything s o n k h t = absurd h.kept
-dated_by v m (between p q) everything j (between x y) s o n k h t = absurd s.ends
+dated_by v m (between p q) everything j (between x y) s o n k h t = absurd s.endpoints
 dated_by v m (between p q) (between c d) everything (between x y) s o n k h t = absurd k.kept
 dated_by v m (between p q) (between c d) (between e f) (between x y) s o n k h t =
-    let low = le_trans _ _ _ (record { cross = omega (arith, ints) }) (le_trans _ _ _ k.kept.above n.ends.0) in
-    let high = le_trans _ _ _ n.ends.1 (le_trans _ _ _ k.kept.below (record { cross = omega (arith, ints) })) in (
-      from_difference p d TABLE_START (le_trans _ _ _ t.0 s.ends.0) (le_trans _ _ _ low o),
-      to_difference q c TABLE_END (le_trans _ _ _ s.ends.1 t.1) (le_trans _ _ _ o high),
+    let low = le_trans _ _ _ (record { cross = omega (arith, ints) }) (le_trans _ _ _ k.kept.above n.endpoints.0) in
+    let high = le_trans _ _ _ n.endpoints.1 (le_trans _ _ _ k.kept.below (record { cross = omega (arith, ints) })) in (
+      from_difference p d TABLE_START (le_trans _ _ _ t.0 s.endpoints.0) (le_trans _ _ _ low o),
+      to_difference q c TABLE_END (le_trans _ _ _ s.endpoints.1 t.1) (le_trans _ _ _ o high),
     )
 
 unfoldable pub moment_world : (i : Interval) → IsProper i → World

@@ -28,7 +28,7 @@ use Rattle.book_model.proofs.Implying.{limits_within}
 use Rattle.encl_core.proofs.Measuring.{measured, measured_argument, sloped, looser}
 use Rattle.sun_core.specs.Widths.{IsNarrowPlace, IsObliquity, IsLocalMoment}
 use Rattle.sun_core.proofs.Measured.{ahead_within}
-use Rattle.encl_core.specs.Steps.{IsOpenLess}
+use Rattle.encl_core.specs.Steps.{IsUndecidedLess}
 use Rattle.rise_set.specs.Horizons.{offset_by_parts}
 use Rattle.rise_set.specs.Widths.{IsMeanMoment, IsDeclination, IsDepression, IsOffset, IsSettled}
 use Rattle.book_model.specs.sky.Facts.{IsFactDay}
@@ -206,7 +206,7 @@ one_above v (between a b) (between c d) h k =
 
 -- so the test whether an offset is no sine is decided
 pub within_reach : (s : Site) (v : ℕ) (i j : Interval) (r : Result Bool Fail) → IsWithin (pos (2 ^ 32)) (pos (2 ^ 32)) 0 i → IsOffset v j
-    → IfOk r (λ t. compare_at i j ≡ Some t) → IfErr r (IsOpenLess i j s) → Measures (λ t. t ≡ false) r
+    → IfOk r (λ t. compare_at i j ≡ Some t) → IfErr r (IsUndecidedLess i j s) → Measures (λ t. t ≡ false) r
 within_reach s v i j (Ok t) h k d o = let z = one_above v i j h k in cc
 within_reach s v i j (Err (undecided_at u)) h k d o = let z = one_above v i j h k in let n = o.0.open_there in absurd (cc)
 within_reach s v i j (Err (Void t)) h k d o = absurd o

@@ -38,7 +38,7 @@ use Rattle.book_model.specs.declared.time_tables.TheConstants.{RECENT_START}
 -- ---- one approximation
 part_of_quarters : product (product quarters (only (whole (pos 2)))) (exactly (fraction_of DEGREE_IN_DAYS)) ⊆ between (whole (negsuc 0)) (whole (pos 1))
 unfolding product least greatest smaller larger times is_at_most
-part_of_quarters = record { ends = (record { cross = omega (arith, ints) }, record { cross = omega (arith, ints) }) }
+part_of_quarters = record { endpoints = (record { cross = omega (arith, ints) }, record { cross = omega (arith, ints) }) }
 
 no_arc : (n : ℕ) → IsBetween (negsuc 0) (pos 1) (product (product (arctangent_of n everything) (only (whole (pos 2)))) (exactly (fraction_of DEGREE_IN_DAYS)))
 unfolding arctangent_of product
@@ -156,7 +156,7 @@ sunset_near w d y h =
 minutes_of_days : product (between (whole (negsuc 23)) (whole (pos 37))) (exactly (fraction_of MINUTES_OF_DAY)) ⊆ between (whole (negsuc 34559))
     (whole (pos 53280))
 unfolding product least greatest smaller larger times is_at_most
-minutes_of_days = record { ends = (record { cross = omega (arith, ints) }, record { cross = omega (arith, ints) }) }
+minutes_of_days = record { endpoints = (record { cross = omega (arith, ints) }, record { cross = omega (arith, ints) }) }
 
 minutes_around : (d : ℤ) (i : Interval) → IsProper i → IsBetween (d -ℤ pos 24) (d +ℤ pos 37) i
     → IsBetween (negsuc 34559) (pos 53280) (product (difference i (exactly (whole d))) (exactly (fraction_of MINUTES_OF_DAY)))
@@ -167,7 +167,7 @@ minutes_around d (between x y) p b =
     (difference_between (d -ℤ pos 24) (d +ℤ pos 37) d d (between x y) (exactly (whole d)) b (le_refl _, le_refl _)) in
     between_of_within _ _ _ (within_trans (product_within {i = difference (between x y) (exactly (whole d))} {i' = between (whole (negsuc 23)) (whole (pos 37))}
     {j = exactly (fraction_of MINUTES_OF_DAY)} (difference_proper (between x y) (exactly (whole d)) p (le_refl (whole d)))
-    (le_refl (fraction_of MINUTES_OF_DAY)) (record { ends = k }) (within_refl (exactly (fraction_of MINUTES_OF_DAY)))) minutes_of_days)
+    (le_refl (fraction_of MINUTES_OF_DAY)) (record { endpoints = k }) (within_refl (exactly (fraction_of MINUTES_OF_DAY)))) minutes_of_days)
 
 less_half : (n : ℤ) → whole n ≤F plus (whole n) (fraction_of HALF)
 unfolding plus
@@ -240,9 +240,9 @@ later_by : (v : ℕ) (m lo hi : ℤ) (i j : Interval) → v ≤ 2 ^ 63 → (m +�
     → IsWithin (m *ℤ pos (2 ^ 32)) (pos (2 ^ 58)) v j
 unfolding IsNarrow
 later_by v m lo hi i everything b l s o h k = absurd k.kept
-later_by v m lo hi everything (between x y) b l s o h k = absurd s.ends
+later_by v m lo hi everything (between x y) b l s o h k = absurd s.endpoints
 later_by v m lo hi (between p q) (between x y) b l s o h k =
-    let reaches = le_trans _ _ _ h.0 (le_trans _ _ _ o (le_trans _ _ _ s.ends.1
+    let reaches = le_trans _ _ _ h.0 (le_trans _ _ _ o (le_trans _ _ _ s.endpoints.1
     (le_trans _ _ _ k.kept.close (plus_mono x x _ _ (le_refl x) (within_a_day v b))))) in
     record {
       kept = record {

@@ -25,7 +25,7 @@ use Rattle.book_model.specs.numbers.Expressions.{Expression, World, value, exact
 use Rattle.book_model.specs.numbers.Fractions.{fraction_of}
 use Rattle.book_model.specs.numbers.Ranges.{IsBetween}
 use Rattle.book_model.specs.numbers.Relations.{Narrow, Keeps, Within}
-use Rattle.book_model.specs.programs.Leading.{units_of_56, bounds, between_cells, too_far, IsOpenCell, Exact, Leads}
+use Rattle.book_model.specs.programs.Leading.{units_of_56, bounds, between_cells, too_far, IsUndecidedCell, Exact, Leads}
 use Rattle.book_model.specs.programs.Programs.{integers, cell_at, cell_of}
 use Rattle.book_model.specs.programs.Widths.{IsAbout, IsClose, close_test}
 use Rattle.book_model.specs.sky.Horizon.{minutes_after_of, rounded_minutes_of, minutes_in_days}
@@ -35,7 +35,7 @@ use Rattle.book_model.proofs.Implying.{limits_within}
 use Rattle.book_model.proofs.Leads.{leads_value}
 use Rattle.book_model.proofs.Nesting.{cell_nested}
 use Rattle.encl_core.proofs.Measuring.{measured, looser, sloped}
-use Rattle.encl_core.specs.Steps.{IsOpenFloor}
+use Rattle.encl_core.specs.Steps.{IsUndecidedFloor}
 use Rattle.rise_set.specs.Moved.{HasRoom, IsTooFar}
 use Rattle.rise_set.specs.Widths.{IsMeanMoment, IsSettled, AreMinutes}
 use Rattle.rise_set.proofs.MeanMoments.{moment_world, within_moment}
@@ -72,7 +72,7 @@ end_low lo a e h = let k = le_trans _ _ _ h (ge_of_same e) in omega (arith, ints
 end_high : (hi : ℤ) (a : Fraction) → units_of_56 hi ≈ a → a ≤F at_32 (pos (2 ^ 90)) → hi ≤ℤ pos (2 ^ 114)
 end_high hi a e h = let k = le_trans _ _ _ (le_of_same e) h in omega (arith, ints, k.cross)
 
-open_room : (v : ℕ) (k lo hi : ℤ) (i : Interval) → IsAbout (2 ^ 90) v i → neg_ℤ (pos (2 ^ 40)) ≤ℤ k → k ≤ℤ pos (2 ^ 40) → IsOpenCell integers i lo hi
+open_room : (v : ℕ) (k lo hi : ℤ) (i : Interval) → IsAbout (2 ^ 90) v i → neg_ℤ (pos (2 ^ 40)) ≤ℤ k → k ≤ℤ pos (2 ^ 40) → IsUndecidedCell integers i lo hi
     → FitsSigned w128 (lo +ℤ k *ℤ ONE) × FitsSigned w128 (hi +ℤ k *ℤ ONE)
 unfolding IsNarrow
 open_room v k lo hi i h l m (too_far q e f b) = let z = floor_about v q i h e in absurd (f (omega (arith, ints, z.0, z.1)))
@@ -85,7 +85,7 @@ open_room v k lo hi (between a b) h l m (between_cells e (bounds p q)) =
     (omega (arith, ints), omega (arith, ints))
 
 pub failure_room : (v : ℕ) (k : ℤ) (s : Site) (i : Interval) (f : Fail) → IsAbout (2 ^ 90) v i → neg_ℤ (pos (2 ^ 40)) ≤ℤ k → k ≤ℤ pos (2 ^ 40)
-    → IsOpenFloor i s f → HasRoom k f
+    → IsUndecidedFloor i s f → HasRoom k f
 failure_room v k s i (undecided_at u) h l m o = open_room v k u.lo u.hi i h l m o.0
 failure_room v k s i (Void t) h l m o = tt
 
@@ -125,7 +125,7 @@ minutes_within shown n t d y e h k f =
 -- ---- between which the minutes lie
 exactly_in : (i : Interval) (x : Fraction) → IsMember x i → exactly x ⊆ i
 exactly_in everything x h = within_everything _
-exactly_in (between a b) x h = record { ends = h }
+exactly_in (between a b) x h = record { endpoints = h }
 
 floor_of_exact : (x : Fraction) (n : ℤ) → cell_at integers (exactly x) ≡ Some n → floor x ≡ n
 unfolding cell_at cell_of

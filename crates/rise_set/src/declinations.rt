@@ -9,7 +9,7 @@ ghost use Rattle.book_model.specs.sky.Horizon as spec;
 ghost use Rattle.sun_core.specs.Widths.{IsNarrowPlace};
 ghost use Rattle.rise_set.specs.Altitudes.{IsTilt};
 ghost use Rattle.rise_set.specs.Widths.{IsDeclination};
-ghost use Rattle.time_scales.specs.Steps.{IsYearOpenFor};
+ghost use Rattle.time_scales.specs.Steps.{IsYearUndecidedFor};
 
 use book_model::sun_tables::DEGREE_IN_DAYS;
 use book_model::{Fail, Frac};
@@ -36,7 +36,7 @@ pub fn obliquity_at<E: Enclosure>(t: E, trail: &mut Trail) -> Result<E, Fail>
     ensures leads { Follows1 E.shown obliquity_at_of t trail.old.count trail.new.count result }
     ensures in_table { IfOk result (λ o. IsInTable (E.shown t)) }
     ensures measured { Measured1 E.BITS E.shown (2 ^ 33) IsMoment (λ v. IsTilt) t result }
-    ensures open { IfErr result (IsYearOpenFor (E.shown t)) }
+    ensures open { IfErr result (IsYearUndecidedFor (E.shown t)) }
 {
     let c = centuries(t, trail)?;
     obliquity(c, trail)

@@ -37,7 +37,7 @@ fn days<E: Enclosure>(minutes: i64) -> E
 }
 
 /// When the sun rises on a day (R.D.) at Ujjain, in universal time: dawn with a depression of 47 minutes of arc, rounded to a
-/// minute of local mean time (Reingold and Dershowitz, Calendrical Calculations, chapter 20). 133 tests at most (`hindu_facts`'s
+/// minute of local mean time (Reingold and Dershowitz, Calendrical Calculations, chapter 20). 133 tests at most (`hindu_sky`'s
 /// `sunrise_few`), those of dawn and one at `round`. It is void where dawn is.
 #[tactic(auto, using(book_model::proofs::Leads::leading), unfolding(book_model::specs::sky::Horizon::sunrise_of))]
 pub fn sunrise<E: Enclosure>(day: i64, trail: &mut Trail) -> Result<E, Fail>
@@ -80,7 +80,7 @@ impl<E: Enclosure> HinduSunsets<E> {
         }
     }
 
-    /// When the sun's middle sets on a day (R.D.), in universal time: 132 tests at most (`hindu_facts`'s `sunset_few`). It is void
+    /// When the sun's middle sets on a day (R.D.), in universal time: 132 tests at most (`hindu_sky`'s `sunset_few`). It is void
     /// where dusk is.
     #[tactic(auto, using(book_model::proofs::Leads::leading), unfolding(book_model::specs::sky::Horizon::hindu_sunset_of))]
     pub fn on(&self, day: i64, trail: &mut Trail) -> Result<E, Fail>
@@ -97,7 +97,7 @@ impl<E: Enclosure> HinduSunsets<E> {
 }
 
 /// When the sun's middle sets on a day (R.D.) at Ujjain, the air left out, in universal time (Reingold and Dershowitz, Calendrical
-/// Calculations, chapter 20): 132 tests at most (`hindu_facts`'s `sunset_few`). It is void where dusk is.
+/// Calculations, chapter 20): 132 tests at most (`hindu_sky`'s `sunset_few`). It is void where dusk is.
 pub fn hsunset<E: Enclosure>(day: i64, trail: &mut Trail) -> Result<E, Fail>
     ensures leads { Follows E.shown (spec.hindu_sunset_of day) trail.old.count trail.new.count
         result }

@@ -12,19 +12,19 @@ use Rattle.oracle_core.specs.Answers.{IsRightAnswer}
 use Rattle.std.specs.declared.option.Option.{Option}
 use Rattle.std.specs.Io.KnownBytes.{Appends}
 use Rattle.oracle_core.specs.declared.evaluator.Answer.{Answer}
-use Rattle.cert_read.specs.declared.lines.CertFile.{CertFile}
+use Rattle.cert_parser.specs.declared.lines.CertFile.{CertFile}
 use Rattle.cert_text.specs.declared.line.CertLine.TheVariants.{Refused}
-use Rattle.cert_read.specs.declared.read.ReadFail.{ReadFail}
-use Rattle.cert_read.specs.declared.read.ReadFail.TheVariants.{Bad, Memory}
-use Rattle.cert_read.specs.Reading.{Answers, Reading, bad, file, grammar_of}
-use Rattle.byte_streams.specs.Stream.{Wrote, AppendsFront}
-use Rattle.byte_streams.proofs.Flow.{buffered_on, buffered_front}
+use Rattle.cert_parser.specs.declared.read.ReadFail.{ReadFail}
+use Rattle.cert_parser.specs.declared.read.ReadFail.TheVariants.{Bad, Memory}
+use Rattle.cert_parser.specs.Reading.{Answers, Reading, bad, file, grammar_of}
+use Rattle.byte_streams.specs.Stream.{Wrote, AppendsPrefix}
+use Rattle.byte_streams.proofs.Flow.{buffered_on, buffered_prefix}
 use Rattle.cert_check.specs.declared.verdict.Verdict.{Verdict}
 use Rattle.cert_check.specs.declared.verdict.Verdict.TheVariants.{Yes, No, Skip}
 use Rattle.cert_check.specs.Verdicts.{AreRightAnswers, IsCheckable, line_at, verdict_of}
 use Rattle.cert_check.proofs.Certified.{yes_line}
-use Rattle.printed_rows.specs.declared.text.WriteStop.{WriteStop}
-use Rattle.printed_rows.specs.Writing.{Performs}
+use Rattle.conversion.specs.declared.text.WriteStop.{WriteStop}
+use Rattle.conversion.specs.Writing.{Performs}
 use Rattle.run_core.specs.declared.check.Checked.{Checked}
 use Rattle.run_core.specs.declared.check.Checked.TheVariants.{AllYes, NotAll, BadText}
 use Rattle.run_core.specs.Checking.{verdict_text, verdicts_after, verdicts_of, verdicts_text, is_yes, is_no, is_skip, with_one, ChecksFile, Comes, RefusesText, TellsFail, CutsFail, bad_text, checked}
@@ -68,9 +68,9 @@ pub verdicts_on : (a b c : Option (List ℕ)) (t w w' : List ℕ) (i : ℕ) (lef
 verdicts_on a b c t w w' i left rest v counts is old new = buffered_on a b c t w _ w' _ (rw (is, verdicts_split i v rest counts) at old) new
 
 -- a prefix of one more verdict is put
-pub verdicts_front : (a b c : Option (List ℕ)) (t w : List ℕ) (i : ℕ) (left rest : List Verdict) (v : Verdict) (counts : List ℕ) → left ≡ v ∷ rest
-    → Wrote a b t (w ++ (verdicts_after i left ++ counts)) → AppendsFront b c (w ++ verdict_text (i + 1) v) → AppendsFront a c t
-verdicts_front a b c t w i left rest v counts is old new = buffered_front a b c t w _ _ (rw (is, verdicts_split i v rest counts) at old) new
+pub verdicts_prefix : (a b c : Option (List ℕ)) (t w : List ℕ) (i : ℕ) (left rest : List Verdict) (v : Verdict) (counts : List ℕ) → left ≡ v ∷ rest
+    → Wrote a b t (w ++ (verdicts_after i left ++ counts)) → AppendsPrefix b c (w ++ verdict_text (i + 1) v) → AppendsPrefix a c t
+verdicts_prefix a b c t w i left rest v counts is old new = buffered_prefix a b c t w _ _ (rw (is, verdicts_split i v rest counts) at old) new
 
 -- after the last verdict the counts are left
 pub verdicts_end : (a b : Option (List ℕ)) (t w : List ℕ) (i : ℕ) (left : List Verdict) (counts : List ℕ) → left ≡ []
@@ -110,8 +110,8 @@ all_yes (Skip ∷ vs) = rw (some (length (filter is_skip vs))) (neither (length 
     neither false = refl
 
 -- what is left to write is a rest
-pub front_written : (a b : Option (List ℕ)) (t r : List ℕ) → Wrote a b t r → AppendsFront a b t
-front_written a b t r w = record { rest = r; wrote = w }
+pub prefix_written : (a b : Option (List ℕ)) (t r : List ℕ) → Wrote a b t r → AppendsPrefix a b t
+prefix_written a b t r w = record { rest = r; wrote = w }
 
 -- answers that are right for the facts of pairs, in order
 pub right_answers : (es : List (Fact × ℤ)) (answers : List Answer) → AllZip IsRightAnswer (map (λ pair. pair.0) es) answers → AreRightAnswers es answers
@@ -145,12 +145,12 @@ same_stop stop other h = let same : stop ≡ other = cc in rw same refl
 -- ---- what is the same of a file that is checked and of one that is upgraded
 -- a call stopped within another, of which there is more to tell
 pub stopped_within : {S T U : Type 0} {written : S → Option (List ℕ)} {faults : S → ℕ} {old new : S} {done : T → Type 0} {finished : U → Type 0}
-    {front cut : Type 0} (stop : WriteStop) → (front → cut) → Performs written faults old new done front (Err stop)
+    {prefix cut : Type 0} (stop : WriteStop) → (prefix → cut) → Performs written faults old new done prefix (Err stop)
     → Performs written faults old new finished cut (Err stop)
 stopped_within stop more h = record {
   ok = tt;
   fault = λ e. more (h.fault (same_stop _ _ e));
-  memory = λ e. elim (h.memory (same_stop _ _ e)) [ inl kept ↦ inl kept | inr front ↦ inr (more front) ];
+  memory = λ e. elim (h.memory (same_stop _ _ e)) [ inl kept ↦ inl kept | inr prefix ↦ inr (more prefix) ];
   cause = λ e. h.cause (same_stop _ _ e);
   later = h.later;
 }
@@ -164,21 +164,21 @@ told (Bad line rule) reading old new BadText h k = (refl, record { line = line; 
 told Memory reading old new is h k = absurd k
 
 -- or a prefix of it
-told_front : (fail : ReadFail) (reading : Reading) (old new : Option (List ℕ)) {cut : Type 0} → Answers (Err fail) reading
-    → ((line rule : ℕ) → reading ≡ bad line rule → AppendsFront old new (bad_text line rule) → cut) → CutsFail fail old new → cut
-told_front (Bad line rule) reading old new h front k = front line rule h k
-told_front Memory reading old new h front k = absurd k
+told_prefix : (fail : ReadFail) (reading : Reading) (old new : Option (List ℕ)) {cut : Type 0} → Answers (Err fail) reading
+    → ((line rule : ℕ) → reading ≡ bad line rule → AppendsPrefix old new (bad_text line rule) → cut) → CutsFail fail old new → cut
+told_prefix (Bad line rule) reading old new h prefix k = prefix line rule h k
+told_prefix Memory reading old new h prefix k = absurd k
 
 -- and that is what comes of the bytes
 pub refused : {S : Type 0} {written : S → Option (List ℕ)} {faults : S → ℕ} {old new : S} {comes : Checked → Type 0} {cut : Type 0} {r : Result Checked WriteStop}
     (fail : ReadFail) (reading : Reading) → Answers (Err fail) reading → (RefusesText reading (written old) (written new) → comes BadText)
-    → ((line rule : ℕ) → reading ≡ bad line rule → AppendsFront (written old) (written new) (bad_text line rule) → cut)
+    → ((line rule : ℕ) → reading ≡ bad line rule → AppendsPrefix (written old) (written new) (bad_text line rule) → cut)
     → Performs written faults old new (TellsFail fail (written old) (written new)) (CutsFail fail (written old) (written new)) r
     → Performs written faults old new comes cut r
-refused {written = written} {old = old} {new = new} {comes = comes} {r = r} fail reading h refuses front k = record {
+refused {written = written} {old = old} {new = new} {comes = comes} {r = r} fail reading h refuses prefix k = record {
   ok = IfOk-weaker r _ _ (λ is t. let bad_one = told fail reading _ _ is h t in rw bad_one.0 (refuses bad_one.1)) k.ok;
-  fault = λ e. told_front fail reading _ _ h front (k.fault e);
-  memory = λ e. elim (k.memory e) [ inl kept ↦ inl kept | inr told_so ↦ inr (told_front fail reading _ _ h front told_so) ];
+  fault = λ e. told_prefix fail reading _ _ h prefix (k.fault e);
+  memory = λ e. elim (k.memory e) [ inl kept ↦ inl kept | inr told_so ↦ inr (told_prefix fail reading _ _ h prefix told_so) ];
   cause = k.cause;
   later = k.later;
 }

@@ -8,8 +8,8 @@ use Rattle.book_model.specs.sky.Facts.{run_of, IsTrueWith, IsVoidAt}
 use Rattle.oracle_core.specs.Answers.{IsRightAnswer}
 use Rattle.oracle_core.specs.declared.evaluator.Answer.{Answer}
 use Rattle.oracle_core.specs.declared.evaluator.Answer.TheVariants.{Value, Undecided, Void}
-use Rattle.cert_read.specs.declared.lines.CertFile.{CertFile}
-use Rattle.cert_read.specs.Reading.{file, grammar_of}
+use Rattle.cert_parser.specs.declared.lines.CertFile.{CertFile}
+use Rattle.cert_parser.specs.Reading.{file, grammar_of}
 use Rattle.cert_check.specs.Verdicts.{AreRightAnswers}
 use Rattle.run_core.specs.Checking.{verdicts_of, verdicts_text}
 use Rattle.run_core.specs.Laws.{HasOneCheck, is_open}

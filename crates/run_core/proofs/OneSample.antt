@@ -4,7 +4,7 @@ use Rattle.run_core.specs.Commands.{sample_lines}
 use Rattle.book_model.specs.declared.version.TheConstants.{WRITTEN}
 use Rattle.cert_text.proofs.OneText.{one_list}
 use Rattle.run_core.specs.Laws.{HasOneCount}
-use Rattle.printed_rows.specs.Counting.{sample_text}
+use Rattle.conversion.specs.Counting.{sample_text}
 
 pub one_count : (count seed : ℕ) → HasOneCount count seed
 one_count count seed = λ os ps h k a b. ap (sample_text count seed) (one_list WRITTEN (sample_lines count seed) os ps h k a b)

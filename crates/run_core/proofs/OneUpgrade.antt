@@ -8,10 +8,10 @@ use Rattle.cert_text.specs.declared.line.CertLine.{CertLine}
 use Rattle.cert_text.specs.declared.line.CertLine.TheVariants as line
 use Rattle.cert_text.specs.Laws.{HasNoneUndecided, is_undecided}
 use Rattle.cert_text.proofs.OneText.{one_list}
-use Rattle.cert_read.specs.declared.lines.CertFile.{CertFile}
-use Rattle.cert_read.specs.Reading.{file}
-use Rattle.printed_rows.specs.Echoes.{echo_line, words_in}
-use Rattle.printed_rows.specs.Renewing.{Renews}
+use Rattle.cert_parser.specs.declared.lines.CertFile.{CertFile}
+use Rattle.cert_parser.specs.Reading.{file}
+use Rattle.conversion.specs.Echoes.{echo_line, words_in}
+use Rattle.conversion.specs.Renewing.{Renews}
 use Rattle.run_core.specs.Laws.{HasOneUpgrade, IsSettled}
 use Rattle.run_core.specs.Upgrading.{upgradable}
 

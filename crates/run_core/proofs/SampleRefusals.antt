@@ -22,10 +22,10 @@ use Rattle.book_model.specs.lines.Outcomes.{LineOutcome, refused, resolved, unde
 use Rattle.book_model.specs.lines.Requests.{AreSpelled, IsSpelled, fields_with, request_of}
 use Rattle.book_model.specs.lines.Text.{line_text}
 use Rattle.book_model.specs.lines.Words.{shown_by}
-use Rattle.book_model.specs.programs.Programs.{Outcome, outcome, valued, void_at, open_at}
+use Rattle.book_model.specs.programs.Programs.{Outcome, outcome, valued, void_at, undecided_test_at}
 use Rattle.book_model.specs.sky.Facts.{run_of}
 use Rattle.line_core.proofs.TextRead.{text_is_read}
-use Rattle.printed_rows.specs.Counting.{is_refused}
+use Rattle.conversion.specs.Counting.{is_refused}
 use Rattle.run_core.specs.Laws.{HasNoRefusal}
 
 -- the request for a day number
@@ -44,7 +44,7 @@ shown_found n seen (ask f next) to x es h = by (outcome (run_of n f)) (λ v k. s
         → found_at f o (λ v. finding_after n (with_entry seen f v) (and_then (next v) (λ fields. done (Shown to fields)))) ≡ found x es → is_shown x ≡ true
     by (valued v) rest k = rest v k
     by (void_at s) rest k = absurd (cc)
-    by (open_at s) rest k = absurd (cc)
+    by (undecided_test_at s) rest k = absurd (cc)
 
 value_found : (n : ℕ) (f : Fact) (to : ToWord) (x : Resolved) (es : List (Fact × ℤ)) → finding n (ask f (λ v. done (Shown to (one_field v)))) ≡ found x es
     → is_shown x ≡ true
@@ -54,7 +54,7 @@ value_found n f to x es h = by (outcome (run_of n f)) h
     by : (o : Outcome ℤ) → found_at f o (λ v. found (Shown to (one_field v)) (with_entry [] f v)) ≡ found x es → is_shown x ≡ true
     by (valued v) k = let e : Shown to (one_field v) ≡ x = cc in rw (← e) refl
     by (void_at s) k = absurd (cc)
-    by (open_at s) k = absurd (cc)
+    by (undecided_test_at s) k = absurd (cc)
 
 result_shown : (n : ℕ) (to : ToWord) (s : Meaning) (day : ℤ) (x : Resolved) (es : List (Fact × ℤ)) → finding n (shown_on to s day) ≡ found x es
     → is_shown x ≡ true

@@ -6,10 +6,10 @@ use Rattle.std.specs.declared.option.Option.{Option}
 use Rattle.book_model.specs.declared.version.TheConstants.{WRITTEN}
 use Rattle.book_model.specs.lines.Lines.{lines_of}
 use Rattle.cert_text.specs.declared.line.CertLine.{CertLine}
-use Rattle.cert_read.specs.declared.lines.CertFile.{CertFile}
-use Rattle.cert_read.specs.Reading.{HasRule, bad, file, grammar_of}
-use Rattle.cert_read.proofs.ReadFiles.{HaveRules, grammar_well}
-use Rattle.printed_rows.specs.Renewing.{Renewed}
+use Rattle.cert_parser.specs.declared.lines.CertFile.{CertFile}
+use Rattle.cert_parser.specs.Reading.{HasRule, bad, file, grammar_of}
+use Rattle.cert_parser.proofs.ReadFiles.{HaveRules, grammar_well}
+use Rattle.conversion.specs.Renewing.{Renewed}
 use Rattle.run_core.specs.Checking.{checked}
 use Rattle.run_core.specs.Upgrading.{Becomes, has_header, upgradable}
 

@@ -3,12 +3,12 @@ use Rattle.std.proofs.Common.{◌≡◌, ◌⊎◌, inl, inr, ℕ, Bool, List, r
 use Rattle.std.specs.Prelude.{Ok, Err, Result, IsErrOf}
 use Rattle.std.specs.Io.KnownBytes.{Keeps}
 use Rattle.std.specs.declared.option.Option.{Option}
-use Rattle.printed_rows.specs.Counting.{Counted, CountCutShort}
-use Rattle.printed_rows.specs.Printing.{Printed, CutShort}
-use Rattle.printed_rows.specs.Rows.{lines_in as lines_of_rows, AreSpelledRows}
-use Rattle.printed_rows.specs.declared.rows.Rows.{Rows}
-use Rattle.printed_rows.specs.declared.text.WriteStop.{WriteStop}
-use Rattle.printed_rows.specs.declared.text.WriteStop.TheVariants as stop
+use Rattle.conversion.specs.Counting.{Counted, CountCutShort}
+use Rattle.conversion.specs.Printing.{Printed, CutShort}
+use Rattle.conversion.specs.Rows.{lines_in as lines_of_rows, AreSpelledRows}
+use Rattle.conversion.specs.declared.rows.Rows.{Rows}
+use Rattle.conversion.specs.declared.text.WriteStop.{WriteStop}
+use Rattle.conversion.specs.declared.text.WriteStop.TheVariants as stop
 use Rattle.run_core.specs.Checking.{CheckCutShort}
 use Rattle.run_core.specs.Upgrading.{UpgradeCutShort}
 use Rattle.run_core.specs.Commands.{Lines, Work, print, count, judge, renew, sample_lines}

@@ -4,11 +4,11 @@ use Rattle.std.specs.List.{concat, list_all}
 use Rattle.std.specs.declared.option.Option.{Option}
 use Rattle.std.specs.Io.KnownBytes.{Appends}
 use Rattle.oracle_core.specs.declared.evaluator.Answer.{Answer}
-use Rattle.cert_read.specs.declared.lines.CertFile.{CertFile}
-use Rattle.cert_read.specs.Reading.{Reading, grammar_of, file, bad}
-use Rattle.cert_read.specs.declared.read.ReadFail.{ReadFail}
-use Rattle.cert_read.specs.declared.read.ReadFail.TheVariants.{Bad, Memory}
-use Rattle.byte_streams.specs.Stream.{AppendsFront}
+use Rattle.cert_parser.specs.declared.lines.CertFile.{CertFile}
+use Rattle.cert_parser.specs.Reading.{Reading, grammar_of, file, bad}
+use Rattle.cert_parser.specs.declared.read.ReadFail.{ReadFail}
+use Rattle.cert_parser.specs.declared.read.ReadFail.TheVariants.{Bad, Memory}
+use Rattle.byte_streams.specs.Stream.{AppendsPrefix}
 use Rattle.cert_check.specs.declared.verdict.Verdict.{Verdict}
 use Rattle.cert_check.specs.declared.verdict.Verdict.TheVariants.{Yes, No, Skip}
 use Rattle.cert_check.specs.Text.{counts_text}
@@ -72,7 +72,7 @@ pub record ChecksFile (old new : Option (List ℕ)) (f : CertFile) (all_yes : Bo
 pub record CutsFile (old new : Option (List ℕ)) (f : CertFile) : Type 0 where
   pub answers : List Answer
   pub right : AreRightAnswers f.facts answers
-  pub front : AppendsFront old new (verdicts_text (verdicts_of f answers))
+  pub prefix : AppendsPrefix old new (verdicts_text (verdicts_of f answers))
 
 -- the bytes are a file of the grammar, and the verdicts of its lines stand there
 pub record ChecksText (old new : Option (List ℕ)) (input : List ℕ) (all_yes : Bool) : Type 0 where
@@ -94,7 +94,7 @@ TellsFail Memory old new checked = ⊥
 
 -- a prefix of it stands there
 abbrev pub CutsFail : ReadFail → Option (List ℕ) → Option (List ℕ) → Type 0
-CutsFail (Bad line rule) old new = AppendsFront old new (bad_text line rule)
+CutsFail (Bad line rule) old new = AppendsPrefix old new (bad_text line rule)
 CutsFail Memory old new = ⊥
 
 -- bytes are read as none of a file, and the line that names the first bad line and its first broken rule stands there
@@ -113,4 +113,4 @@ Comes old new input BadText = RefusesText (grammar_of input) old new
 -- a prefix of what is written for the bytes stands there
 pub data CheckCutShort (old new : Option (List ℕ)) (input : List ℕ) : Type 0 where
   cut_verdicts : (f : CertFile) → grammar_of input ≡ file f → CutsFile old new f → CheckCutShort old new input
-  cut_bad : (line rule : ℕ) → grammar_of input ≡ bad line rule → AppendsFront old new (bad_text line rule) → CheckCutShort old new input
+  cut_bad : (line rule : ℕ) → grammar_of input ≡ bad line rule → AppendsPrefix old new (bad_text line rule) → CheckCutShort old new input

@@ -5,8 +5,8 @@ use Rattle.almanac_core.specs.East.{east_requests}
 use Rattle.almanac_core.specs.Sample.{sample_requests}
 use Rattle.book_model.specs.declared.request.Request.{Request}
 use Rattle.book_model.specs.lines.Text.{line_text}
-use Rattle.command_words.specs.declared.command.Command.{Command}
-use Rattle.command_words.specs.declared.command.Command.TheVariants.{Convert, Check, Upgrade, Almanac, Sample, East}
+use Rattle.command_line.specs.declared.command.Command.{Command}
+use Rattle.command_line.specs.declared.command.Command.TheVariants.{Convert, Check, Upgrade, Almanac, Sample, East}
 
 -- the lines of the almanac of a year
 abbrev pub almanac_lines : ℕ → List (List ℕ)

@@ -16,8 +16,8 @@ use Rattle.oracle_core.specs.declared.evaluator.Answer.TheVariants as answer
 use Rattle.cert_text.specs.Laws.{HasNoneUndecided, is_undecided}
 use Rattle.cert_text.specs.declared.line.CertLine.{CertLine}
 use Rattle.cert_text.specs.declared.line.CertLine.TheVariants as line
-use Rattle.printed_rows.specs.Counting.{is_refused, sample_text}
-use Rattle.printed_rows.specs.Echoes.{words_in}
+use Rattle.conversion.specs.Counting.{is_refused, sample_text}
+use Rattle.conversion.specs.Echoes.{words_in}
 use Rattle.run_core.specs.Checking.{ChecksText, verdicts_of, verdicts_text}
 use Rattle.run_core.specs.Commands.{sample_lines}
 use Rattle.run_core.specs.Upgrading.{Upgrades}

@@ -4,19 +4,19 @@ use Rattle.std.specs.declared.option.Option.{Option}
 use Rattle.std.specs.Io.KnownBytes.{Consumes, IsAtEnd}
 use Rattle.book_model.specs.lines.Lines.{lines_of}
 use Rattle.book_model.specs.lines.Text.{line_text}
-use Rattle.printed_rows.specs.Printing.{Printed, CutShort}
-use Rattle.printed_rows.specs.Counting.{Counted, CountCutShort}
+use Rattle.conversion.specs.Printing.{Printed, CutShort}
+use Rattle.conversion.specs.Counting.{Counted, CountCutShort}
 use Rattle.run_core.specs.Commands.{Input, whole, nothing, Lines, given, made, Work, print, count, judge, renew, work_of, sample_lines}
-use Rattle.cert_read.specs.Reading.{grammar_of}
+use Rattle.cert_parser.specs.Reading.{grammar_of}
 use Rattle.run_core.specs.Checking.{ChecksText, CheckCutShort, RefusesText}
 use Rattle.run_core.specs.Upgrading.{Upgrades, UpgradeCutShort, upgradable}
-use Rattle.command_words.specs.declared.command.Command.{Command}
+use Rattle.command_line.specs.declared.command.Command.{Command}
 use Rattle.run_core.specs.declared.check.Checked.{Checked}
 use Rattle.run_core.specs.declared.check.Checked.TheVariants as checked
 use Rattle.run_core.specs.declared.check.Checked.TheVariants.{AllYes, NotAll}
-use Rattle.printed_rows.specs.declared.text.WriteStop.{WriteStop}
-use Rattle.printed_rows.specs.declared.text.WriteStop.TheVariants as stop
-use Rattle.printed_rows.specs.declared.text.WriteStop.TheVariants.{Fault}
+use Rattle.conversion.specs.declared.text.WriteStop.{WriteStop}
+use Rattle.conversion.specs.declared.text.WriteStop.TheVariants as stop
+use Rattle.conversion.specs.declared.text.WriteStop.TheVariants.{Fault}
 use Rattle.run_core.specs.declared.status.Status.{Status}
 use Rattle.run_core.specs.declared.status.Status.TheVariants.{Done, Mixed, Words, ReadFault, WriteFault, Memory, TooLarge, BadText}
 

@@ -5,11 +5,11 @@ use Rattle.book_model.specs.calendars.Versions.{header_line}
 use Rattle.book_model.specs.declared.version.Version.{Version}
 use Rattle.book_model.specs.declared.version.TheConstants.{WRITTEN}
 use Rattle.book_model.specs.lines.Lines.{lines_of}
-use Rattle.byte_streams.specs.Stream.{AppendsFront}
-use Rattle.cert_read.specs.declared.lines.CertFile.{CertFile}
-use Rattle.cert_read.specs.Grammar.{is_word}
-use Rattle.cert_read.specs.Reading.{Reading, grammar_of, file, bad}
-use Rattle.printed_rows.specs.Renewing.{Renewed, RenewedCutShort}
+use Rattle.byte_streams.specs.Stream.{AppendsPrefix}
+use Rattle.cert_parser.specs.declared.lines.CertFile.{CertFile}
+use Rattle.cert_parser.specs.Grammar.{is_word}
+use Rattle.cert_parser.specs.Reading.{Reading, grammar_of, file, bad}
+use Rattle.conversion.specs.Renewing.{Renewed, RenewedCutShort}
 use Rattle.run_core.specs.Checking.{RefusesText, bad_text}
 use Rattle.run_core.specs.declared.check.Checked.{Checked}
 use Rattle.run_core.specs.declared.check.Checked.TheVariants.{AllYes, NotAll, BadText}
@@ -38,4 +38,4 @@ Becomes old new input BadText = RefusesText (upgradable input) old new
 -- a prefix of what is written for the bytes stands there
 pub data UpgradeCutShort (old new : Option (List ℕ)) (input : List ℕ) : Type 0 where
   cut_text : (f : CertFile) → upgradable input ≡ file f → RenewedCutShort old new f.lines → UpgradeCutShort old new input
-  cut_refusal : (line rule : ℕ) → upgradable input ≡ bad line rule → AppendsFront old new (bad_text line rule) → UpgradeCutShort old new input
+  cut_refusal : (line rule : ℕ) → upgradable input ≡ bad line rule → AppendsPrefix old new (bad_text line rule) → UpgradeCutShort old new input

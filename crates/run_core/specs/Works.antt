@@ -1,6 +1,6 @@
 -- The work that the code does.
 use Rattle.std.specs.Prelude.{◌≡◌, ℕ, List}
-use Rattle.printed_rows.specs.Rows.{lines_in as lines_of_rows, AreSpelledRows}
+use Rattle.conversion.specs.Rows.{lines_in as lines_of_rows, AreSpelledRows}
 use Rattle.run_core.specs.Commands.{Work, print, count, judge, renew, sample_lines}
 use Rattle.run_core.specs.Run.{lines_in}
 use Rattle.run_core.specs.declared.work.Work.{Work as WorkOf}

@@ -3,18 +3,18 @@ ghost use Rattle.std.specs.Prelude.{◌≡◌, ◌≤◌, ◌<◌, ◌==◌, ◌
 ghost use Rattle.std.specs.List.{list_all};
 ghost use Rattle.cert_check.specs.Text.{counts_text};
 ghost use Rattle.cert_check.specs.Verdicts.{AreRightAnswers, IsCheckable};
-ghost use Rattle.cert_read.specs.declared.read.TheConstants.{LONGEST_FILE as longest_file};
+ghost use Rattle.cert_parser.specs.declared.read.TheConstants.{LONGEST_FILE as longest_file};
 ghost use Rattle.byte_streams.specs.Stream.{Rose, Writes, Wrote};
-ghost use Rattle.printed_rows.specs.Writing.{Performs, WritesAll, WritesFront};
+ghost use Rattle.conversion.specs.Writing.{Performs, WritesAll, WritesPrefix};
 ghost use Rattle.run_core.specs.Checking as spec;
 
 use book_model::Fact;
 use byte_streams::{Failed, Gathered, Sink, write_two_counts};
 use cert_check::{Verdict, check_line, write_counts, write_verdict};
-use cert_read::{CertFile, ReadFail, read_file};
+use cert_parser::{CertFile, ReadFail, read_file};
+use conversion::{MANY, WriteStop, count_of, number_after, write_if_many};
 use jobs_core::{Gate, Tools, map_facts};
 use oracle_core::{Answers, Evaluator};
-use printed_rows::{MANY, WriteStop, count_of, number_after, write_if_many};
 use shelf_core::Shelf;
 use std::alloc::{AllocError, Global};
 use std::thread::Threads;
@@ -116,7 +116,7 @@ fn put_verdict<K: Sink>(
     ensures ok { OnOk result (Wrote (K.written sink.old) (K.written sink.new)
         (pending.old.bytes.items ++ spec.verdict_text (count + 1) verdict.now)
         pending.new.bytes.items) }
-    ensures err { WritesFront K.written sink.old sink.new
+    ensures err { WritesPrefix K.written sink.old sink.new
         (pending.old.bytes.items ++ spec.verdict_text (count + 1) verdict.now) result }
     ensures fault { IsErrOf result WriteStop.Fault → Rose (K.faults sink.old) (K.faults sink.new) }
     ensures later { K.faults sink.old ≤ K.faults sink.new }
@@ -140,7 +140,7 @@ fn put_counts<K: Sink>(
 ) -> Result<(), WriteStop>
     ensures ok { WritesAll K.written sink.old sink.new (pending.old.bytes.items
         ++ counts_text counts.yes counts.no counts.skip) result }
-    ensures err { WritesFront K.written sink.old sink.new
+    ensures err { WritesPrefix K.written sink.old sink.new
         (pending.old.bytes.items ++ counts_text counts.yes counts.no counts.skip) result }
     ensures fault { IsErrOf result WriteStop.Fault → Rose (K.faults sink.old) (K.faults sink.new) }
     ensures later { K.faults sink.old ≤ K.faults sink.new }
@@ -173,7 +173,7 @@ pub(crate) fn write_verdicts<K: Sink>(
         (spec.verdicts_text (spec.verdicts_of file.now answers.now)) result }
     ensures yes { IfOk result (λ all. all
         ≡ list_all spec.is_yes (spec.verdicts_of file.now answers.now)) }
-    ensures err { WritesFront K.written sink.old sink.new
+    ensures err { WritesPrefix K.written sink.old sink.new
         (spec.verdicts_text (spec.verdicts_of file.now answers.now)) result }
     ensures fault { IsErrOf result WriteStop.Fault → Rose (K.faults sink.old) (K.faults sink.new) }
     ensures later { K.faults sink.old ≤ K.faults sink.new }

@@ -3,9 +3,9 @@ ghost use Rattle.std.specs.Prelude.{◌≡◌, ◌≤◌, ◌<◌, ◌⊎◌, tr
 ghost use Rattle.std.specs.Io.KnownBytes.{Keeps};
 ghost use Rattle.byte_streams.specs.Stream.{Rose};
 ghost use Rattle.cert_check.specs.Verdicts.{IsCheckable};
-ghost use Rattle.cert_read.specs.Reading.{grammar_of};
-ghost use Rattle.cert_read.specs.declared.read.TheConstants.{LONGEST_FILE as longest_file};
-ghost use Rattle.printed_rows.specs.Writing.{Performs};
+ghost use Rattle.cert_parser.specs.Reading.{grammar_of};
+ghost use Rattle.cert_parser.specs.declared.read.TheConstants.{LONGEST_FILE as longest_file};
+ghost use Rattle.conversion.specs.Writing.{Performs};
 ghost use Rattle.run_core.specs.Checking as spec;
 ghost use Rattle.run_core.specs.Run.{IsOfCheck};
 
@@ -14,9 +14,9 @@ use crate::program::status_of_check;
 use crate::status::Status;
 use byte_streams::Sink;
 use cert_check::check_facts;
-use cert_read::{CertFile, LONGEST_FILE, read_file};
+use cert_parser::{CertFile, LONGEST_FILE, read_file};
+use conversion::WriteStop;
 use oracle_core::Evaluator;
-use printed_rows::WriteStop;
 use std::alloc::Global;
 
 /// Writes the verdicts of the lines of a file by the answers of an evaluator, and says whether all are yes.

@@ -15,10 +15,10 @@ mod upgrade;
 mod work;
 
 pub use byte_streams::{Failed, MemorySink, MemorySource, Sink, Source, StdSink, StdSource};
-pub use command_words::Command;
+pub use command_line::Command;
+pub use conversion::{WriteStop, answer_briefly, answer_line, write_text};
 pub use in_memory::check_bytes;
 pub use jobs_core::{Gate, OpenGate, Outcome};
 pub use limits::input_limit;
-pub use printed_rows::{WriteStop, answer_briefly, answer_line, write_text};
 pub use program::{USAGE, run};
 pub use status::Status;

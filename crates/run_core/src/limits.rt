@@ -2,8 +2,8 @@
 ghost use Rattle.std.specs.Prelude.{◌≡◌};
 ghost use Rattle.run_core.specs.Commands as spec;
 
-use cert_read::LONGEST_FILE;
-use command_words::Command;
+use cert_parser::LONGEST_FILE;
+use command_line::Command;
 
 // The definitions have these numbers too, and the two are proved to be the same.
 /// How many bytes an input of a command may have, where the command reads one.

@@ -1,10 +1,10 @@
 //! The top call: all that the program does.
 ghost use Rattle.std.specs.Prelude.{◌≡◌, ◌≤◌, ◌⊎◌, ℕ, true, false, List, map, length, Some, None, string_bytes, IfOk, IsOk, IsErrOf};
 ghost use Rattle.std.specs.Io.KnownBytes.{Appends, Consumes, Keeps};
-ghost use Rattle.command_words.specs.Words.{command_of as named, IsInRange};
+ghost use Rattle.command_line.specs.Words.{command_of as named, IsInRange};
 ghost use Rattle.run_core.specs.Commands.{input_of, limit_of, nothing};
 ghost use Rattle.run_core.specs.Run.{usage, Finishes, IsCut, Refuses, IsOfWork, HasRead, CanRead, IsTooLarge, IsPast, ended, check_ended};
-ghost use Rattle.byte_streams.specs.Stream.{Rose, AppendsFront};
+ghost use Rattle.byte_streams.specs.Stream.{Rose, AppendsPrefix};
 
 use crate::check::{Checked, check};
 use crate::limits::limit_read;
@@ -12,10 +12,10 @@ use crate::status::Status;
 use crate::upgrade::upgrade;
 use crate::work::{Work, work_of};
 use byte_streams::{ReadStop, Sink, Source, read_all, write_all};
-use command_words::{Command, NoCommand, order_of};
+use command_line::{Command, NoCommand, order_of};
+use conversion::{Rows, WriteStop, count, print};
 use jobs_core::{Gate, Tools};
 use oracle_core::Evaluator;
-use printed_rows::{Rows, WriteStop, count, print};
 use std::alloc::{AllocError, Global};
 use std::thread::Threads;
 
@@ -119,7 +119,7 @@ fn obey<R: Threads + Sync, K: Sink, E: Evaluator + Sync, G: Gate + Sync>(
 /// Writes the usage line.
 fn refuse_words<K: Sink>(sink: &mut K) -> Status
     ensures words { result ≡ Status.Words → Appends (K.written sink.old) (K.written sink.new) usage }
-    ensures cut { result ≡ Status.WriteFault → AppendsFront (K.written sink.old)
+    ensures cut { result ≡ Status.WriteFault → AppendsPrefix (K.written sink.old)
         (K.written sink.new) usage }
     ensures either { (result ≡ Status.Words) ⊎ (result ≡ Status.WriteFault) }
     ensures cause { result ≡ Status.WriteFault → Rose (K.faults sink.old) (K.faults sink.new) }
@@ -209,7 +209,7 @@ pub fn run<R: Threads + Sync, S: Source, K: Sink, E: Evaluator + Sync, G: Gate +
         (input : List ℕ) × HasRead (input_of c) (S.left source.old) (S.left source.new) input
         × IsCut c (K.written sink.old) (K.written sink.new) input }
     ensures cut_usage { result ≡ Status.WriteFault → named (map string_bytes words.now) ≡ None →
-        AppendsFront (K.written sink.old) (K.written sink.new) usage }
+        AppendsPrefix (K.written sink.old) (K.written sink.new) usage }
     ensures memory { result ≡ Status.Memory → Keeps (K.written sink.old) (K.written sink.new)
         ⊎ (c : Command) × (named (map string_bytes words.now) ≡ Some c)
         × (input : List ℕ) × HasRead (input_of c) (S.left source.old) (S.left source.new) input

@@ -2,19 +2,19 @@
 ghost use Rattle.std.specs.Prelude.{◌≡◌, ◌≤◌, length};
 ghost use Rattle.book_model.specs.lines.Lines.{lines_of};
 ghost use Rattle.book_model.specs.declared.version.TheConstants.{WRITTEN as written};
-ghost use Rattle.cert_read.specs.Reading.{Answers};
-ghost use Rattle.cert_read.specs.declared.read.TheConstants.{LONGEST_FILE as longest_file};
-ghost use Rattle.printed_rows.specs.Writing.{Performs};
+ghost use Rattle.cert_parser.specs.Reading.{Answers};
+ghost use Rattle.cert_parser.specs.declared.read.TheConstants.{LONGEST_FILE as longest_file};
+ghost use Rattle.conversion.specs.Writing.{Performs};
 ghost use Rattle.run_core.specs.Upgrading as spec;
 
 use crate::check::{Checked, write_fail};
 use book_model::WRITTEN;
 use byte_streams::Sink;
-use cert_read::{CertFile, ReadFail, read_file};
+use cert_parser::{CertFile, ReadFail, read_file};
+use conversion::{WriteStop, renew};
 use jobs_core::{Gate, Tools};
 use line_core::cut_line;
 use oracle_core::Evaluator;
-use printed_rows::{WriteStop, renew};
 use std::alloc::Global;
 use std::thread::Threads;
 

@@ -1,13 +1,13 @@
 //! What the commands do.
 ghost use Rattle.std.specs.Prelude.{◌≡◌, IfOk};
-ghost use Rattle.command_words.specs.Words.{IsInRange};
+ghost use Rattle.command_line.specs.Words.{IsInRange};
 ghost use Rattle.run_core.specs.Commands as spec;
 ghost use Rattle.run_core.specs.Works.{DoesWork};
 
 use almanac_core::{almanac_requests, east_requests, sample_requests};
-use command_words::Command;
+use command_line::Command;
+use conversion::Rows;
 use line_core::split_lines;
-use printed_rows::Rows;
 use std::alloc::{AllocError, Global};
 
 /// What is done: the text of rows is printed, it is counted how many of a sample's rows have each outcome, a certificate is

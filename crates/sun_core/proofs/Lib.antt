@@ -1,11 +1,11 @@
 -- of angle_search, re-exported
 pub use Rattle.angle_search.proofs.Measured as SearchMeasured
 pub use Rattle.angle_search.proofs.Passed
-pub mod OnCourse
+pub mod OnLinearModel
 pub mod Scalings
-pub mod Openings
+pub mod UndecidedTests
 pub mod Elapsed
-pub mod SunWaves
+pub mod SunTerms
 pub mod NewYears
 pub mod Measured
 pub mod PassageWidths

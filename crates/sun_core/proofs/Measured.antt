@@ -12,7 +12,7 @@ use Rattle.book_model.specs.declared.time_tables.TheConstants.{NOON_2000}
 use Rattle.book_model.specs.numbers.Bounds.{Bound, unbounded, bounded, Reach, implies, bound_of, limits_at, limits_of, integer_bound, constant_bound, sum_bound, difference_bound, scaled_bound, product_bound, power_bound, quotient_bound, minimum_bound, maximum_bound, spanned_bound, sine_spans, cosine_spans}
 use Rattle.book_model.specs.numbers.Expressions.{Expression, argument, constant, integer, add, subtract, scale, minimum}
 use Rattle.book_model.specs.numbers.Fractions.{fraction_of}
-use Rattle.book_model.specs.numbers.Polynomials.{quadratic_of, cubic_of, quadratic_wave_of}
+use Rattle.book_model.specs.numbers.Polynomials.{quadratic_of, cubic_of, quadratic_term_of}
 use Rattle.book_model.specs.numbers.Ranges.{IsInTable}
 use Rattle.book_model.specs.numbers.Relations.{Narrow, Keeps}
 use Rattle.book_model.specs.programs.Widths.{IsAbout, IsMoment, IsUpTo, AreCenturies, table_days, table_from, table_to, table_centuries, centuries_from, centuries_to}
@@ -65,15 +65,15 @@ module _ {E : Type 0} (shown : E → Interval) (n v : ℕ) (e : n ≡ 56) (b : v
   turned_within y h = looser _ _ _ _ _ _ (shown y) (omega (arith, ints)) (omega (arith, ints)) (omega arith) h
 
 -- the sum of the periodic terms, and its value in degrees
-abbrev waves_bound : ℕ → Bound
-waves_bound k =
+abbrev terms_bound : ℕ → Bound
+terms_bound k =
     bounded (neg_ℤ (pos (SUN_SIZES * 2 ^ 32))) (pos (SUN_SIZES * 2 ^ 32)) (SUN_SLOPE * 2 ^ 8)
     (width_of_sum SUN_SLOPE SUN_SIZES 0 + 1)
 
 abbrev in_degrees : Expression → Expression
 in_degrees x = scale (fraction_of SUN_UNIT_FINELY) (scale (fraction_of SUN_UNIT_COARSELY) x)
 
-periodic_reach : implies (bound_of (limits_at 56) waves_bound (in_degrees (argument 0)))
+periodic_reach : implies (bound_of (limits_at 56) terms_bound (in_degrees (argument 0)))
     (bounded (neg_ℤ (pos (5 * 2 ^ 32))) (pos (5 * 2 ^ 32)) (2 ^ 40 / 20) (2 ^ 25))
     ≡ true
 unfolding implies bound_of scaled_bound
@@ -84,10 +84,10 @@ pub periodic_within : {E : Type 0} (shown : E → Interval) (n v : ℕ) (s y : E
     → ((r : Reach) (x : Expression) → Narrow shown (limits_of n) r x s → Narrow shown (limits_of n) r (in_degrees x) y)
     → IsAbout (5 * 2 ^ 32) (v / 20 + 2 ^ 26) (shown y)
 periodic_within shown n v s y e h f =
-    measured shown n v waves_bound (in_degrees (argument 0)) _ _ (2 ^ 40 / 20) (2 ^ 25) (v / 20 + 2 ^ 26) y e
+    measured shown n v terms_bound (in_degrees (argument 0)) _ _ (2 ^ 40 / 20) (2 ^ 25) (v / 20 + 2 ^ 26) y e
     periodic_reach (omega arith)
-    (f (record { width = v; bounds = waves_bound }) (argument 0)
-    (sloped shown (limits_of n) v (width_of_sum SUN_SLOPE SUN_SIZES v) waves_bound 0 _ _ (SUN_SLOPE * 2 ^ 8)
+    (f (record { width = v; bounds = terms_bound }) (argument 0)
+    (sloped shown (limits_of n) v (width_of_sum SUN_SLOPE SUN_SIZES v) terms_bound 0 _ _ (SUN_SLOPE * 2 ^ 8)
     (width_of_sum SUN_SLOPE SUN_SIZES 0 + 1) s refl
     (omega arith) h))
 
@@ -105,7 +105,7 @@ longitude_reach : implies (bound_of (limits_at 56) parts_bound (longitude_by (ar
     (bounded (neg_ℤ (pos (2 ^ 90))) (pos (2 ^ 90)) (2 * 2 ^ 40) (2 ^ 30)) ≡ true
 unfolding implies bound_of integer_bound constant_bound sum_bound difference_bound scaled_bound product_bound
     power_bound spanned_bound sine_spans cosine_spans
-    computed_mean_longitude_of computed_aberration_of nutation_of quadratic_wave_of quadratic_of by_days has_daily
+    computed_mean_longitude_of computed_aberration_of nutation_of quadratic_term_of quadratic_of by_days has_daily
     by_centuries in_centuries
 longitude_reach = refl
 

@@ -40,7 +40,7 @@ product_in (between a b) everything f p h e = within_everything _
 product_in (between a b) (between c d) f p h e =
     let l = h a (le_refl a, p) in
     let u = h b (p, le_refl b) in
-    record { ends = (least_is c _ _ _ _ l.0 l.0 u.0 u.0, greatest_is d _ _ _ _ l.1 l.1 u.1 u.1) }
+    record { endpoints = (least_is c _ _ _ _ l.0 l.0 u.0 u.0, greatest_is d _ _ _ _ l.1 l.1 u.1 u.1) }
 
 whole_twice : (i : Interval) (a b : Fraction) → i ≡ everything → product (product i (exactly a)) (exactly b) ≡ everything
 unfolding product
@@ -74,10 +74,10 @@ once_member i a b f x e m =
     same_member (product i (exactly f)) (times x f) (times (times x a) b) (same_sym same) (product_holds i (exactly f) x f m (le_refl f, le_refl f))
 
 -- the endpoints of a product, times a number, in an interval of endpoints
-ends_within : (p q b : Fraction) (j : Interval) → IsMember (times p b) j → IsMember (times q b) j → product (between p q) (exactly b) ⊆ j
+endpoints_within : (p q b : Fraction) (j : Interval) → IsMember (times p b) j → IsMember (times q b) j → product (between p q) (exactly b) ⊆ j
 unfolding product
-ends_within p q b everything hp hq = within_everything _
-ends_within p q b (between c d) hp hq = record { ends = (least_is c _ _ _ _ hp.0 hp.0 hq.0 hq.0, greatest_is d _ _ _ _ hp.1 hp.1 hq.1 hq.1) }
+endpoints_within p q b everything hp hq = within_everything _
+endpoints_within p q b (between c d) hp hq = record { endpoints = (least_is c _ _ _ _ hp.0 hp.0 hq.0 hq.0, greatest_is d _ _ _ _ hp.1 hp.1 hq.1 hq.1) }
 
 -- scaling by two numbers, one after the other, lies within scaling by their product
 pub once_within : (i : Interval) (a b f : Fraction) → IsProper i → times a b ≈ f → product (product i (exactly a)) (exactly b) ⊆ product i (exactly f)
@@ -87,7 +87,7 @@ once_within (between l u) a b f p e =
     let P : Fraction → Type 0 = λ z. IsMember (times z b) (product (between l u) (exactly f)) in
     let hl = once_member (between l u) a b f l e (le_refl l, p) in
     let hu = once_member (between l u) a b f u e (p, le_refl u) in
-    ends_within (least (times l a) (times l a) (times u a) (times u a)) (greatest (times l a) (times l a) (times u a) (times u a)) b
+    endpoints_within (least (times l a) (times l a) (times u a) (times u a)) (greatest (times l a) (times l a) (times u a) (times u a)) b
     (product (between l u) (exactly f))
     (least_keeps P _ _ _ _ hl hl hu hu) (greatest_keeps P _ _ _ _ hl hl hu hu)
 

@@ -2,7 +2,7 @@
 use Rattle.std.specs.Prelude.{Bool, ◌-◌, ◌*◌, ◌&&◌, nat_lt, nat_le, cond}
 use Rattle.book_model.specs.Fraction.{whole}
 use Rattle.book_model.specs.declared.frac.Frac.{Frac}
-use Rattle.book_model.specs.declared.polynomial.Wave.{Wave}
+use Rattle.book_model.specs.declared.polynomial.PeriodicTerm.{PeriodicTerm}
 use Rattle.book_model.specs.declared.time_tables.TheConstants.{DAY_IN_CENTURIES}
 use Rattle.book_model.specs.numbers.Expressions.{Expression, constant, add, scale, sine}
 use Rattle.book_model.specs.numbers.Fractions.{fraction_of, ten_millionths, daily_ten_millionths}
@@ -25,9 +25,9 @@ unfoldable pub by_days : Frac → Expression → Expression
 by_days f x = cond (has_daily f) (scale (record { num = f.num; below = f.den * 36525 - 1 }) x) (by_centuries f x)
 
 -- the angle of a periodic term, as it is computed
-abbrev pub daily_angle_of : Wave → Expression → Expression
+abbrev pub daily_angle_of : PeriodicTerm → Expression → Expression
 daily_angle_of v x = add (constant (ten_millionths v.phase)) (scale (daily_ten_millionths v.rate) x)
 
 -- the size of a periodic term times the sine of its angle
-unfoldable pub daily_wave_of : Expression → Wave → Expression
-daily_wave_of x v = scale (whole v.size) (sine (daily_angle_of v x))
+unfoldable pub daily_term_of : Expression → PeriodicTerm → Expression
+daily_term_of x v = scale (whole v.size) (sine (daily_angle_of v x))

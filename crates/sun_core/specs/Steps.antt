@@ -1,12 +1,12 @@
 -- The parts of the sun's longitude, and the order in which they are computed; parts of the equation of time and of
 -- noon.
 use Rattle.std.specs.Prelude.{ℤ, pos, ◌+ℤ◌}
-use Rattle.book_model.specs.declared.sun_tables.TheConstants.{ABERRATION, MEAN_ABERRATION, SUN_AT_2000, SUN_RATE, SUN_WAVES}
+use Rattle.book_model.specs.declared.sun_tables.TheConstants.{ABERRATION, MEAN_ABERRATION, SUN_AT_2000, SUN_RATE, SUN_TERMS}
 use Rattle.book_model.specs.declared.tables.TheConstants.{HALF}
 use Rattle.book_model.specs.numbers.Expressions.{Expression, integer, constant, add, subtract, scale, cosine}
 use Rattle.book_model.specs.numbers.Fractions.{fraction_of, ten_millionths}
 use Rattle.book_model.specs.sky.Noon.{reduction_of, centre_of, joint_of}
-use Rattle.book_model.specs.numbers.Polynomials.{waves_of}
+use Rattle.book_model.specs.numbers.Polynomials.{periodic_terms_of}
 use Rattle.book_model.specs.sky.Sun.{sun_unit}
 use Rattle.sun_core.specs.Daily.{by_days, daily_angle_of}
 
@@ -16,7 +16,7 @@ mean_longitude_of c = add (constant (fraction_of SUN_AT_2000)) (scale (fraction_
 
 -- what the sun is ahead of it
 unfoldable pub periodic_of : Expression → Expression
-periodic_of c = scale sun_unit (waves_of SUN_WAVES c)
+periodic_of c = scale sun_unit (periodic_terms_of SUN_TERMS c)
 
 -- the mean longitude by the days
 unfoldable pub computed_mean_longitude_of : Expression → Expression

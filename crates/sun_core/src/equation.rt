@@ -7,7 +7,7 @@ ghost use Rattle.book_model.specs.programs.Leading.{next_turn};
 ghost use Rattle.book_model.specs.sky.Noon.{radians_of, part_of_day, equation_of, equation_of_time_of};
 ghost use Rattle.encl_core.specs.declared.greatest_widths.TheConstants.{EQUATION_OF_TIME};
 ghost use Rattle.encl_core.specs.GreatestWidths.{greatest_of};
-ghost use Rattle.time_scales.specs.Steps.{IsYearOpenFor};
+ghost use Rattle.time_scales.specs.Steps.{IsYearUndecidedFor};
 ghost use Rattle.sun_core.specs.Steps.{first_radians_of};
 
 use book_model::Fail;
@@ -92,7 +92,7 @@ pub fn equation_of_time<E: Enclosure>(t: E, trail: &mut Trail) -> Result<E, Fail
     ensures in_table { IfOk result (λ e. IsInTable (E.shown t)) }
     ensures measured { Measured1 E.BITS E.shown (2 ^ 42) IsMoment
         (λ v. IsAbout (2 ^ 31) (greatest_of EQUATION_OF_TIME v)) t result }
-    ensures open { IfErr result (IsYearOpenFor (E.shown t)) }
+    ensures open { IfErr result (IsYearUndecidedFor (E.shown t)) }
 {
     let c = centuries(t, trail)?;
     Ok(equation(c))

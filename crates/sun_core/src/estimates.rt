@@ -19,7 +19,7 @@ use encl_core::{Enclosure, Trail, wrap_step};
 const HALF_TURN: i64 = 180;
 
 /// An angle, reduced to 0 up to 360 degrees: one test, at `step-wrap`.
-#[tactic(auto, using(book_model::proofs::Leads::leading, crate::proofs::Openings::opening), unfolding(book_model::specs::sky::Sun::reduced_of))]
+#[tactic(auto, using(book_model::proofs::Leads::leading, crate::proofs::UndecidedTests::opening), unfolding(book_model::specs::sky::Sun::reduced_of))]
 pub(crate) fn reduced<E: Enclosure>(angle: E, trail: &mut Trail) -> Result<E, Fail>
     ensures leads { Follows1 E.shown reduced_of angle trail.old.count trail.new.count result }
     ensures measured { Measured1 E.BITS E.shown (2 ^ 44) (IsAbout (2 ^ 90)) (IsUpTo 360) angle

@@ -4,9 +4,9 @@
 //! what the definition gives, at every depth from `DEPTH` on.
 //!
 //! - `sun`: the longitude at a moment, with nutation and aberration;
-//! - `SunCourse`: a linear model of the longitude over an interval of time; `sun_by`: the longitude at a moment of it, as wide as it
+//! - `SunLinearModel`: a linear model of the longitude over an interval of time; `sun_by`: the longitude at a moment of it, as wide as it
 //!   may be there; `days_over`: the days of an interval;
-//! - `obliquity`: of the ecliptic, by the centuries; `nutation`, `sine_wave`, `wave_angle` and `times_rate`, of which longitudes are made;
+//! - `obliquity`: of the ecliptic, by the centuries; `nutation`, `sine_periodic_term`, `term_angle` and `times_rate`, of which longitudes are made;
 //! - `equation_of_time`: what apparent time, which sundials show, is ahead of mean time;
 //! - `from_apparent`: from apparent to local mean time;
 //! - `noon`: true noon at Tehran, which decides the first day of a Persian year; `paris_midnight`: midnight by apparent time at Paris,
@@ -18,27 +18,27 @@
 #![tactic(auto)]
 
 mod apparent;
-mod courses;
 mod daily;
 mod ecliptic;
 mod equation;
 mod estimates;
+mod linear_models;
 mod longitude;
 mod passages;
+mod single_terms;
 mod stars;
 mod turns;
-mod waves;
 
 pub use angle_search::{Angular, invert_angular};
 pub use apparent::{from_apparent, noon, paris_midnight};
 pub use arc_series::{arccos_deg, arcsin_deg};
-pub use courses::{SunCourse, days_over, sun_by};
 pub use daily::times_rate;
 pub use ecliptic::obliquity;
 pub use equation::equation_of_time;
 pub use estimates::estimate;
+pub use linear_models::{SunLinearModel, days_over, sun_by};
 pub use longitude::{nutation, sun};
 pub use passages::{sun_from, sun_from_by};
 pub use periodic_terms::{cos_deg, sin_deg, tan_deg};
+pub use single_terms::{sine_periodic_term, term_angle};
 pub use stars::{precession, sidereal_sun, sidereal_sun_by};
-pub use waves::{sine_wave, wave_angle};

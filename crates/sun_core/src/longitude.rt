@@ -8,13 +8,13 @@ ghost use Rattle.book_model.specs.numbers.Relations.{Within};
 ghost use Rattle.book_model.specs.sky.Sun.{nutation_of, aberration_of, longitude_of, sun_of};
 ghost use Rattle.encl_core.specs.declared.greatest_widths.TheConstants.{SUN};
 ghost use Rattle.encl_core.specs.GreatestWidths.{greatest_of};
-ghost use Rattle.time_scales.specs.Steps.{IsYearOpenFor};
+ghost use Rattle.time_scales.specs.Steps.{IsYearUndecidedFor};
 ghost use Rattle.sun_core.specs.Daily.{in_centuries};
 ghost use Rattle.sun_core.specs.Steps.{mean_longitude_of, periodic_of, computed_aberration_of, computed_mean_longitude_of};
 
 use crate::daily::times_rate;
-use crate::turns::sun_waves;
-use crate::waves::cosine_wave;
+use crate::single_terms::cosine_periodic_term;
+use crate::turns::sun_terms;
 use book_model::sun_tables::{
     ABERRATION, MEAN_ABERRATION, NODE_NUTATION, SOLAR_NUTATION, SUN_AT_2000, SUN_RATE,
     SUN_UNIT_COARSELY, SUN_UNIT_FINELY,
@@ -26,7 +26,7 @@ use periodic_terms::sin_deg;
 use time_scales::dynamical;
 
 /// The nutation in longitude, in degrees, by the centuries (Reingold and Dershowitz, Calendrical Calculations, chapter 14).
-#[tactic(auto, unfolding(book_model::specs::sky::Sun::nutation_of, book_model::specs::numbers::Polynomials::quadratic_wave_of, book_model::specs::numbers::Polynomials::quadratic_of))]
+#[tactic(auto, unfolding(book_model::specs::sky::Sun::nutation_of, book_model::specs::numbers::Polynomials::quadratic_term_of, book_model::specs::numbers::Polynomials::quadratic_of))]
 pub fn nutation<E: Enclosure>(c: E) -> E
     ensures encloses { Encloses1 E.shown E.BITS nutation_of c result }
 {
@@ -49,7 +49,7 @@ pub(crate) fn aberration<E: Enclosure>(days: E) -> E
     ensures holds { Holds1 E.shown (λ x. aberration_of (in_centuries x)) days result }
     ensures narrow { Narrows1 E.shown E.BITS computed_aberration_of days result }
 {
-    cosine_wave(&ABERRATION, days).sub(E::from_frac(MEAN_ABERRATION))
+    cosine_periodic_term(&ABERRATION, days).sub(E::from_frac(MEAN_ABERRATION))
 }
 
 /// What the sun is ahead of its mean longitude: the sum of its periodic terms times their unit, which is applied in two steps.
@@ -58,7 +58,7 @@ fn periodic<E: Enclosure>(days: E) -> E
     ensures measured { (v : ℕ) → E.BITS ≡ 56 → v ≤ 2 ^ 70 → IsAbout (2 ^ 52) v (E.shown days)
         → IsAbout (5 * 2 ^ 32) (v / 20 + 2 ^ 26) (E.shown result) }
 {
-    sun_waves(days)
+    sun_terms(days)
         .mul_frac(SUN_UNIT_COARSELY)
         .mul_frac(SUN_UNIT_FINELY)
 }
@@ -91,14 +91,14 @@ fn longitude<E: Enclosure>(days: E, c: E) -> E
 /// The apparent longitude of the sun at a moment of universal time, in degrees from 0 up to 360 (Reingold and
 /// Dershowitz, Calendrical Calculations, chapter 14). Two tests, the year's and the one at `sun-wrap`. It is void at
 /// `year` in a year without ΔT.
-#[tactic(auto, using(book_model::proofs::Leads::leading, crate::proofs::Openings::opening), unfolding(book_model::specs::sky::Sun::sun_of, book_model::specs::sky::Time::centuries_of, book_model::specs::sky::Time::in_centuries, crate::specs::Daily::in_centuries))]
+#[tactic(auto, using(book_model::proofs::Leads::leading, crate::proofs::UndecidedTests::opening), unfolding(book_model::specs::sky::Sun::sun_of, book_model::specs::sky::Time::centuries_of, book_model::specs::sky::Time::in_centuries, crate::specs::Daily::in_centuries))]
 pub fn sun<E: Enclosure>(t: E, trail: &mut Trail) -> Result<E, Fail>
     ensures leads { Follows1 E.shown sun_of t trail.old.count trail.new.count result }
     ensures in_table { IfOk result (λ s. IsInTable (E.shown t)) }
     ensures measured { Measured1 E.BITS E.shown (2 ^ 42) IsMoment
         (λ v. IsUpTo 360 (greatest_of SUN v)) t
         result }
-    ensures open { IfErr result (IsYearOpenFor (E.shown t)) }
+    ensures open { IfErr result (IsYearUndecidedFor (E.shown t)) }
 {
     let moment = dynamical(t, trail)?;
     let days = moment.sub(E::from_frac(NOON_2000));

@@ -9,8 +9,8 @@ ghost use Rattle.encl_core.specs.GreatestWidths.{greatest_of};
 ghost use Rattle.sun_core.specs.Widths.{IsNearMoment};
 ghost use Rattle.time_scales.specs.Steps.{IsEarlyYearFor};
 
-use crate::courses::{SunCourse, days_over, sun_by};
 use crate::estimates::reduced;
+use crate::linear_models::{SunLinearModel, days_over, sun_by};
 use crate::longitude;
 use angle_search::{Angular, invert_angular};
 use book_model::Fail;
@@ -21,7 +21,7 @@ use encl_core::{Enclosure, Trail};
 const DAYS_ABOUT: i64 = 5;
 
 /// The longitude of the sun, as an angle that grows with time.
-impl<E: Enclosure> Angular<E> for SunCourse<E> {
+impl<E: Enclosure> Angular<E> for SunLinearModel<E> {
     ghost angle_of = { spec.sun_of };
 
     ghost spread = { λ v. greatest_of SUN v };
@@ -35,9 +35,9 @@ impl<E: Enclosure> Angular<E> for SunCourse<E> {
         sun_by(self, x, trail)
     }
 
-    fn over(&self, stretch: E, trail: &Trail) -> Option<Self> {
-        let days = days_over(stretch, trail)?;
-        Some(SunCourse::<E>::of(days))
+    fn over(&self, interval_of_days: E, trail: &Trail) -> Option<Self> {
+        let days = days_over(interval_of_days, trail)?;
+        Some(SunLinearModel::<E>::of(days))
     }
 
     fn time_of(&self, degrees: E) -> E {
@@ -70,7 +70,7 @@ fn moved_on<E: Enclosure>(angle: E, t: E) -> E
 /// When the sun is at a longitude about a moment, but not before the moment `t`.
 #[tactic(auto, unfolding(book_model::specs::sky::Sun::sun_about_of))]
 fn passage_about<E: Enclosure>(
-    course: &SunCourse<E>,
+    linear_model: &SunLinearModel<E>,
     longitude: E,
     t: E,
     about: E,
@@ -83,8 +83,8 @@ fn passage_about<E: Enclosure>(
         → Measures (λ x. IsMoment (v + 2 ^ 24) (E.shown x)) result }
 {
     let days = E::from_int(DAYS_ABOUT);
-    invert_angular::<E, SunCourse<E>>(
-        course,
+    invert_angular::<E, SunLinearModel<E>>(
+        linear_model,
         longitude,
         t.max(about.sub(days)),
         about.add(days),
@@ -97,7 +97,7 @@ fn passage_about<E: Enclosure>(
 /// `sun_from`, where the linear model of the sun is known, over all days or over those about the moment.
 #[tactic(auto, using(book_model::proofs::Leads::leading), unfolding(book_model::specs::sky::Sun::sun_from_of))]
 pub fn sun_from_by<E: Enclosure>(
-    course: &SunCourse<E>,
+    linear_model: &SunLinearModel<E>,
     l: E,
     t: E,
     trail: &mut Trail,
@@ -108,7 +108,7 @@ pub fn sun_from_by<E: Enclosure>(
     ensures early { trail.old.count ≡ 0 → IfErr result (IsEarlyYearFor (E.shown t)) }
 {
     let short = degrees_short(l, t, trail)?;
-    passage_about(course, l, t, moved_on(short, t), trail)
+    passage_about(linear_model, l, t, moved_on(short, t), trail)
 }
 
 /// When the sun is next at a longitude, in degrees, at or after a moment of universal time: by bisection about the moment to which
@@ -121,6 +121,6 @@ pub fn sun_from<E: Enclosure>(l: E, t: E, trail: &mut Trail) -> Result<E, Fail>
         (λ v. IsMoment (4 * v + 2 ^ 33)) l t result }
     ensures early { trail.old.count ≡ 0 → IfErr result (IsEarlyYearFor (E.shown t)) }
 {
-    let course = SunCourse::<E>::always();
-    sun_from_by(&course, l, t, trail)
+    let linear_model = SunLinearModel::<E>::always();
+    sun_from_by(&linear_model, l, t, trail)
 }

@@ -6,12 +6,12 @@ ghost use Rattle.book_model.specs.Interval.{Interval};
 ghost use Rattle.book_model.specs.sky.Sidereal as spec;
 ghost use Rattle.encl_core.specs.declared.greatest_widths.TheConstants.{SIDEREAL_SUN};
 ghost use Rattle.encl_core.specs.GreatestWidths.{greatest_of};
-ghost use Rattle.time_scales.specs.Steps.{IsYearOpenFor};
+ghost use Rattle.time_scales.specs.Steps.{IsYearUndecidedFor};
 ghost use Rattle.time_scales.specs.Widths.{AreRecentCenturies};
 ghost use Rattle.sun_core.specs.Widths.{IsTilt, IsCrossing, IsAdvance};
 ghost use Rattle.book_model.specs.declared.time_tables.TheConstants.{RECENT_START};
 
-use crate::courses::{SunCourse, sun_by};
+use crate::linear_models::{SunLinearModel, sun_by};
 use crate::longitude::sun;
 use arc_series::arctan2_deg;
 use book_model::sun_tables::{ECLIPTIC_CROSSING, ECLIPTIC_TILT, EQUINOX_ADVANCE, SIDEREAL_START};
@@ -56,7 +56,7 @@ pub fn precession<E: Enclosure>(t: E, trail: &mut Trail) -> Result<E, Fail>
     ensures leads { Follows1 E.shown spec.precession_of t trail.old.count trail.new.count result }
     ensures measured { Measured1 E.BITS E.shown (2 ^ 42) (IsSince RECENT_START)
         (λ v. IsAbout (2 ^ 39) (v / 1000 + 2 ^ 33)) t result }
-    ensures open { IfErr result (IsYearOpenFor (E.shown t)) }
+    ensures open { IfErr result (IsYearUndecidedFor (E.shown t)) }
 {
     let c = centuries(t, trail)?;
     Ok(precession_at(c))
@@ -71,12 +71,12 @@ fn sidereal_by<E: Enclosure>(longitude: E, precession: E) -> E
 }
 
 /// An angle, reduced to 0 up to 360 degrees: one test, at `sidereal`.
-#[tactic(auto, using(book_model::proofs::Leads::leading, crate::proofs::Openings::opening), unfolding(book_model::specs::sky::Sidereal::starred_of))]
+#[tactic(auto, using(book_model::proofs::Leads::leading, crate::proofs::UndecidedTests::opening), unfolding(book_model::specs::sky::Sidereal::starred_of))]
 fn wrapped_sidereal<E: Enclosure>(angle: E, trail: &mut Trail) -> Result<E, Fail>
     ensures leads { Follows1 E.shown spec.starred_of angle trail.old.count trail.new.count result }
     ensures measured { Measured1 E.BITS E.shown (2 ^ 44) (IsAbout (2 ^ 90)) (IsUpTo 360) angle
         result }
-    ensures elsewhere { (i : Interval) → IfErr result (IsYearOpenFor i) }
+    ensures elsewhere { (i : Interval) → IfErr result (IsYearUndecidedFor i) }
 {
     wrap_step(angle, 360, Site::Sidereal, trail)
 }
@@ -89,7 +89,7 @@ pub fn sidereal_sun<E: Enclosure>(t: E, trail: &mut Trail) -> Result<E, Fail>
     ensures leads { Follows1 E.shown spec.sidereal_sun_of t trail.old.count trail.new.count result }
     ensures measured { Measured1 E.BITS E.shown (2 ^ 42) (IsSince RECENT_START)
         (λ v. IsUpTo 360 (greatest_of SIDEREAL_SUN v)) t result }
-    ensures open { IfErr result (IsYearOpenFor (E.shown t)) }
+    ensures open { IfErr result (IsYearUndecidedFor (E.shown t)) }
 {
     let longitude = sun(t, trail)?;
     let moved = precession(t, trail)?;
@@ -99,14 +99,14 @@ pub fn sidereal_sun<E: Enclosure>(t: E, trail: &mut Trail) -> Result<E, Fail>
 /// `sidereal_sun` by a linear model of the sun, as wide as it may be over its interval. Where it answers it has made the tests of
 /// `sidereal_sun`. A failure says nothing of `sidereal_sun`: it is void where the moment isn't one of the linear model.
 pub fn sidereal_sun_by<E: Enclosure>(
-    course: &SunCourse<E>,
+    linear_model: &SunLinearModel<E>,
     t: E,
     trail: &mut Trail,
 ) -> Result<E, Fail>
     ensures leads { IfOk result (λ s. Follows1 E.shown spec.sidereal_sun_of t trail.old.count
         trail.new.count (Ok s)) }
 {
-    let longitude = sun_by(course, t, trail)?;
+    let longitude = sun_by(linear_model, t, trail)?;
     let moved = precession(t, trail)?;
     wrapped_sidereal(sidereal_by(longitude, moved), trail)
 }

@@ -55,7 +55,7 @@ within_outwards (between a b) =
     let f = floor_quotient_is (a.num *ℤ pos (2 ^ 20)) a.below in
     let g = floor_quotient_is (b.num *ℤ pos (2 ^ 20)) b.below in
     record {
-      ends = (
+      endpoints = (
         record { cross = omega (arith, ints, f.not_above) },
         record {
           cross = omega (
@@ -221,12 +221,12 @@ year_small d h =
 floor_fits : (i j : Interval) (v : ℤ) → IsProper i → i ⊆ j → fits j ≡ true → cell_at integers i ≡ Some v → (negsuc 9999999 ≤ℤ v) × (v ≤ℤ pos 10000000)
 unfolding cell_at cell_of
 floor_fits i everything v p h f e = absurd (cc)
-floor_fits everything (between c d) v p h f e = absurd h.ends
+floor_fits everything (between c d) v p h f e = absurd h.endpoints
 floor_fits (between a b) (between c d) v p h f e =
     let w = when_some (int_eq (floor a) (floor b)) (floor a) v e in
     let k = both (int_le (negsuc 9999999) (floor c)) (int_le (floor d) (pos 10000000)) f in
-    let l = floor_mono _ _ h.ends.0 in
-    let u = floor_mono _ _ (le_trans _ _ _ p h.ends.1) in
+    let l = floor_mono _ _ h.endpoints.0 in
+    let u = floor_mono _ _ (le_trans _ _ _ p h.endpoints.1) in
     let m : true ≡ int_le (negsuc 9999999) (floor c) = sym k.0 in
     let n : true ≡ int_le (floor d) (pos 10000000) = sym k.1 in
     (omega (arith, ints, w.1), omega (arith, ints, w.1))

@@ -68,7 +68,7 @@ pub values_same : (w : World) (cs : List Frac) (c : Fraction) → value w (polyn
 unfolding polynomial_at horner_of
 values_same w cs c =
     let s = same_number cs c in
-    rw (sum_exact w cs c (length cs), nest_exact w cs c (length cs)) (record { ends = (ge_of_same s, le_of_same s) })
+    rw (sum_exact w cs c (length cs), nest_exact w cs c (length cs)) (record { endpoints = (ge_of_same s, le_of_same s) })
 
 -- what holds Horner's form holds the polynomial
 pub horner_holds : {E : Type 0} (shown : E → Interval) (w : World) (cs : List Frac) (c : Fraction) (e : E) → Within shown w (horner_of cs c) e

@@ -20,18 +20,18 @@ use Rattle.book_model.proofs.Leads.{leads_leaf}
 use Rattle.encl_core.specs.declared.greatest_widths.TheConstants.{CORRECTION}
 use Rattle.encl_core.specs.GreatestWidths.{greatest_of}
 use Rattle.encl_core.proofs.Measuring.{measured, measured_argument, sloped, looser, drawn}
-use Rattle.encl_core.proofs.Closing.{inner_apart, close_ends}
-use Rattle.time_scales.specs.Widths.{HasYearEnds, AreRecentCenturies}
+use Rattle.encl_core.proofs.Closing.{inner_apart, close_endpoints}
+use Rattle.time_scales.specs.Widths.{HasYearEndpoints, AreRecentCenturies}
 use Rattle.time_scales.proofs.Moments.{corrected_in_table}
 
 -- ---- the year
-year_at : (v : ℕ) (lo hi : ℤ) (f : Fail) → v ≤ 2 ^ 44 → ((hi -ℤ lo) *ℤ pos 256) ≤ℤ pos v → HasYearEnds lo hi f → IsClose f
-year_at v lo hi (undecided_at u) h k e = close_ends u Year v e.2 h (rw (e.0, e.1) k)
+year_at : (v : ℕ) (lo hi : ℤ) (f : Fail) → v ≤ 2 ^ 44 → ((hi -ℤ lo) *ℤ pos 256) ≤ℤ pos v → HasYearEndpoints lo hi f → IsClose f
+year_at v lo hi (undecided_at u) h k e = close_endpoints u Year v e.2 h (rw (e.0, e.1) k)
 year_at v lo hi (Void s) h k e = absurd e
 
 -- an undecided year is as close as the moment is wide
 pub year_close : (v : ℕ) (lo hi : ℤ) (i : Interval) (r : Result ℤ Fail) → v ≤ 2 ^ 44 → IsAbout (2 ^ 90) v i → between (units_of_56 lo) (units_of_56 hi) ⊆ i
-    → IfErr r (HasYearEnds lo hi) → IfErr r IsClose
+    → IfErr r (HasYearEndpoints lo hi) → IfErr r IsClose
 year_close v lo hi i (Ok y) b h k o = tt
 year_close v lo hi i (Err f) b h k o = year_at v lo hi f b (inner_apart _ _ v lo hi i h k) o
 

@@ -33,7 +33,7 @@ close_between i h = by h.around h.fits h.inside
     by everything f k = absurd (cc)
     by (between a b) f k =
         let t = both (is_at_most (whole (negsuc 199)) a) (is_at_most b (whole (pos 200))) f in
-        between_of_within (negsuc 199) (pos 200) i (within_trans k (record { ends = (at_most_true _ _ t.0, at_most_true _ _ t.1) }))
+        between_of_within (negsuc 199) (pos 200) i (within_trans k (record { endpoints = (at_most_true _ _ t.0, at_most_true _ _ t.1) }))
 
 -- ΔT of a year is at most 200 days
 correction_between : (w : World) (y : ℤ) (c : Expression) → HasRow y c → IsBetween (negsuc 199) (pos 200) (value w c)

@@ -16,9 +16,9 @@ turned everything a b h = tt
 turned (between lo hi) a b h = (turned_above lo a b h.0, turned_below hi a b h.1)
 
 -- the next power of the members
-next_of_ends : (k : ℕ) (a b : Fraction) → a ≤F b → interval_power (between a b) (suc k) ⊆ product (interval_power (between a b) k) (between a b)
+next_of_endpoints : (k : ℕ) (a b : Fraction) → a ≤F b → interval_power (between a b) (suc k) ⊆ product (interval_power (between a b) k) (between a b)
 unfolding power
-next_of_ends k a b p =
+next_of_endpoints k a b p =
     power_smallest (suc k) a b (product (interval_power (between a b) k) (between a b)) p
     (λ x m. turned (product (interval_power (between a b) k) (between a b)) (power x k) x
     (product_holds (interval_power (between a b) k) (between a b) (power x k) x (power_holds k (between a b) x m) m))
@@ -27,7 +27,7 @@ next_of_ends k a b p =
 pub next_power : (k : ℕ) (i : Interval) → IsProper i → interval_power i (suc k) ⊆ product (interval_power i k) i
 unfolding interval_power product
 next_power k everything p = within_everything _
-next_power k (between a b) p = next_of_ends k a b p
+next_power k (between a b) p = next_of_endpoints k a b p
 
 -- an enclosure of the product of a square and its root holds the cube
 pub cube_holds : {E : Type 0} (shown : E → Interval) (w : World) (x : Expression) (e : E) → Within shown w (multiply (power_of x 2) x) e
@@ -42,10 +42,10 @@ unfolding Keeps bound_of power_bound
 cube_keeps shown l r x e h = record { kept = h.kept }
 
 -- what holds the multiples of two endpoints by a fraction holds the multiple of the interval
-interval_ends : (a b f : Fraction) (j : Interval) → IsMember (times a f) j → IsMember (times b f) j → product (between a b) (between f f) ⊆ j
+interval_endpoints : (a b f : Fraction) (j : Interval) → IsMember (times a f) j → IsMember (times b f) j → product (between a b) (between f f) ⊆ j
 unfolding product
-interval_ends a b f everything h k = within_everything _
-interval_ends a b f (between c d) h k = record { ends = (least_is c _ _ _ _ h.0 h.0 k.0 k.0, greatest_is d _ _ _ _ h.1 h.1 k.1 k.1) }
+interval_endpoints a b f everything h k = within_everything _
+interval_endpoints a b f (between c d) h k = record { endpoints = (least_is c _ _ _ _ h.0 h.0 k.0 k.0, greatest_is d _ _ _ _ h.1 h.1 k.1 k.1) }
 
 -- what holds the multiples of each power of a member holds the multiple of the interval of the powers
 scaled_power : (k : ℕ) (a b f : Fraction) (j : Interval) → a ≤F b → ((x : Fraction) → IsMember x (between a b) → IsMember (times (power x k) f) j)
@@ -68,9 +68,9 @@ scaled_power k a b f j p h = by_test (is_even k) refl
     by_test : (t : Bool) → is_even k ≡ t → product (cond t (between (least_even a b k) (larger (power a k) (power b k))) (between (power a k) (power b k)))
         (between f f) ⊆ j
     by_test true e =
-        interval_ends _ _ f j (least_of (is_at_most zero_fraction a) refl (is_at_most b zero_fraction) refl)
+        interval_endpoints _ _ f j (least_of (is_at_most zero_fraction a) refl (is_at_most b zero_fraction) refl)
         (larger_keeps (λ z. IsMember (times z f) j) (power a k) (power b k) first last)
-    by_test false e = interval_ends _ _ f j first last
+    by_test false e = interval_endpoints _ _ f j first last
 
 -- a product of three with its last factor in front of the first is in the same interval
 turned_of_three : (i : Interval) (x q f : Fraction) → IsMember (times (times q f) x) i → IsMember (times (times x q) f) i
@@ -81,10 +81,10 @@ turned_of_three (between lo hi) x q f h = (
 )
 
 -- the multiple of the next power of an interval lies within the product of the power's multiple and the interval
-next_scaled_of_ends : (k : ℕ) (a b f : Fraction) → a ≤F b → product (interval_power (between a b) (suc k)) (between f f) ⊆ product
+next_scaled_of_endpoints : (k : ℕ) (a b f : Fraction) → a ≤F b → product (interval_power (between a b) (suc k)) (between f f) ⊆ product
     (product (interval_power (between a b) k) (between f f)) (between a b)
 unfolding power
-next_scaled_of_ends k a b f p =
+next_scaled_of_endpoints k a b f p =
     scaled_power (suc k) a b f (product (product (interval_power (between a b) k) (between f f)) (between a b)) p
     (λ x m.
     turned_of_three (product (product (interval_power (between a b) k) (between f f)) (between a b)) x (power x k) f
@@ -95,7 +95,7 @@ next_scaled : (k : ℕ) (f : Fraction) (i : Interval) → IsProper i
     → product (interval_power i (suc k)) (between f f) ⊆ product (product (interval_power i k) (between f f)) i
 unfolding interval_power product
 next_scaled k f everything p = within_everything _
-next_scaled k f (between a b) p = next_scaled_of_ends k a b f p
+next_scaled k f (between a b) p = next_scaled_of_endpoints k a b f p
 
 -- an enclosure of the product of a cube's multiple and its root holds the multiple of the fourth power
 pub fourth_holds : {E : Type 0} (shown : E → Interval) (w : World) (a : Fraction) (x : Expression) (e : E)

@@ -14,20 +14,20 @@ use Rattle.book_model.specs.numbers.Bounds.{Reach, IsNarrow, unbounded, bounded,
 use Rattle.book_model.specs.calendars.Gregorian.{year_of_day}
 use Rattle.book_model.specs.numbers.Expressions.{integer}
 use Rattle.book_model.specs.sky.Facts.{IsValueDay}
-use Rattle.book_model.specs.programs.Leading.{IsOpenCell, between_cells, too_far}
+use Rattle.book_model.specs.programs.Leading.{IsUndecidedCell, between_cells, too_far}
 use Rattle.book_model.specs.programs.Programs.{years, cell_at, cell_of}
 use Rattle.book_model.specs.numbers.Relations.{Narrow, Keeps}
 use Rattle.time_scales.proofs.CorrectionValues.{year_small}
 use Rattle.book_model.proofs.Implying.{limits_within}
-use Rattle.time_scales.specs.Steps.{IsYearOpenFor, IsEarlyYearFor, IsNoEarlyYear, IsNotOfYear}
+use Rattle.time_scales.specs.Steps.{IsYearUndecidedFor, IsEarlyYearFor, IsNoEarlyYear, IsNotOfYear}
 
 floor_of_day : (d : ℤ) → floor (at_32 (d *ℤ pos (2 ^ 32))) ≡ d
 floor_of_day d = let f = floor_quotient_is (d *ℤ pos (2 ^ 32)) (2 ^ 32 - 1) in omega (arith, ints, f.not_above, f.close)
 
-year_of_ends : (i : Interval) (d : ℤ) (w : ℕ) → IsNarrow w (bounded (d *ℤ pos (2 ^ 32)) (d *ℤ pos (2 ^ 32)) 0 0) i → cell_at years i ≡ Some (year_of_day d)
+year_of_endpoints : (i : Interval) (d : ℤ) (w : ℕ) → IsNarrow w (bounded (d *ℤ pos (2 ^ 32)) (d *ℤ pos (2 ^ 32)) 0 0) i → cell_at years i ≡ Some (year_of_day d)
 unfolding IsNarrow cell_at cell_of
-year_of_ends everything d w h = absurd h
-year_of_ends (between lo hi) d w h =
+year_of_endpoints everything d w h = absurd h
+year_of_endpoints (between lo hi) d w h =
     let l = floor_mono _ _ h.above in
     let m = floor_mono _ _ h.ordered in
     let u = floor_mono _ _ h.below in
@@ -49,13 +49,13 @@ unfolding Keeps bound_of integer_bound
 year_enclosed shown bits d e a b h n =
     let small = small_at (nat_le bits 36) (unsigned_abs d * 2 ^ 32) (omega (arith, ints, h.0, h.1)) in
     let kept = (rw (limits_within bits a b) at n).kept in
-    year_of_ends (shown e) d 0 (rw small at kept)
+    year_of_endpoints (shown e) d 0 (rw small at kept)
 
-pub closed_year : (i : Interval) (y : ℤ) (f : Fail) → cell_at years i ≡ Some y → FitsSigned w64 y → IsYearOpenFor i f → IsNotOfYear f
+pub closed_year : (i : Interval) (y : ℤ) (f : Fail) → cell_at years i ≡ Some y → FitsSigned w64 y → IsYearUndecidedFor i f → IsNotOfYear f
 closed_year i y (Void s) e g h = tt
 closed_year i y (undecided_at u) e g h = λ s. by (h s)
   where
-    by : IsOpenCell years i u.lo u.hi → ⊥
+    by : IsUndecidedCell years i u.lo u.hi → ⊥
     by (between_cells n a) = absurd (cc)
     by (too_far q c n b) = let z : y ≡ q = cc in n (subst (λ t. FitsSigned w64 t) z g)
 

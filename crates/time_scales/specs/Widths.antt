@@ -8,9 +8,9 @@ use Rattle.book_model.specs.declared.site.Site.TheVariants.{Year}
 use Rattle.book_model.specs.programs.Widths.{IsWithin, centuries_to, recent_centuries_from}
 
 -- a failure at the year, with these bounds
-abbrev pub HasYearEnds : (lo hi : ℤ) → Fail → Type 0
-HasYearEnds lo hi (Undecided u) = (u.lo ≡ lo) × (u.hi ≡ hi) × (u.site ≡ Year)
-HasYearEnds lo hi (Void s) = ⊥
+abbrev pub HasYearEndpoints : (lo hi : ℤ) → Fail → Type 0
+HasYearEndpoints lo hi (Undecided u) = (u.lo ≡ lo) × (u.hi ≡ hi) × (u.site ≡ Year)
+HasYearEndpoints lo hi (Void s) = ⊥
 
 -- centuries from noon of 1 January 2000 to a recent moment of the years of which ΔT is known, moved by at most a day
 abbrev pub AreRecentCenturies : ℕ → Interval → Type 0

@@ -11,7 +11,7 @@ ghost use Rattle.book_model.specs.numbers.Relations.{Narrow};
 ghost use Rattle.book_model.specs.sky.Time.{hundreds_of, centuries_to_july, correction_by, correction_of_year, correction_at, dynamical_of, from_dynamical_of, in_centuries, centuries_of};
 ghost use Rattle.encl_core.specs.declared.greatest_widths.TheConstants.{CORRECTION, CENTURIES};
 ghost use Rattle.encl_core.specs.GreatestWidths.{greatest_of};
-ghost use Rattle.time_scales.specs.Steps.{IsYearOpenFor};
+ghost use Rattle.time_scales.specs.Steps.{IsYearUndecidedFor};
 ghost use Rattle.time_scales.specs.Widths.{AreRecentCenturies};
 ghost use Rattle.time_scales.specs.Corrections.{IsFormYear, computed_by, computed_of, units_of_year, correction_bound};
 ghost use Rattle.book_model.specs.declared.time_tables.TheConstants.{RECENT_START, TABLE_END};
@@ -121,7 +121,7 @@ fn correction_of_moment<E: Enclosure>(t: E, trail: &mut Trail) -> Result<E, Fail
     ensures in_table { IfOk result (λ e. IsInTable (E.shown t)) }
     ensures measured { Measured1 E.BITS E.shown (2 ^ 44) IsMoment
         (λ v. IsCorrection (greatest_of CORRECTION 0)) t result }
-    ensures open { IfErr result (IsYearOpenFor (E.shown t)) }
+    ensures open { IfErr result (IsYearUndecidedFor (E.shown t)) }
     ensures counted { trail.new.count ≡ next_turn trail.old.count }
 {
     let year = year(t, trail)?;
@@ -137,7 +137,7 @@ pub fn dynamical<E: Enclosure>(t: E, trail: &mut Trail) -> Result<E, Fail>
         (λ v. IsDated 1 (v + 2 ^ 17)) t result }
     ensures recent { Measured1 E.BITS E.shown (2 ^ 44) (IsSince RECENT_START)
         (λ v. IsFrom (RECENT_START -ℤ pos 1) (TABLE_END +ℤ pos 1) (v + 2 ^ 17)) t result }
-    ensures open { IfErr result (IsYearOpenFor (E.shown t)) }
+    ensures open { IfErr result (IsYearUndecidedFor (E.shown t)) }
     ensures counted { trail.new.count ≡ next_turn trail.old.count }
 {
     let correction = correction_of_moment(t, trail)?;
@@ -152,7 +152,7 @@ pub fn from_dynamical<E: Enclosure>(t: E, trail: &mut Trail) -> Result<E, Fail>
         (λ v. IsDated 1 (v + greatest_of CORRECTION 0)) t result }
     ensures recent { Measured1 E.BITS E.shown (2 ^ 44) (IsSince (RECENT_START +ℤ pos 1))
         (λ v. IsFrom RECENT_START (TABLE_END +ℤ pos 1) (v + greatest_of CORRECTION 0)) t result }
-    ensures open { IfErr result (IsYearOpenFor (E.shown t)) }
+    ensures open { IfErr result (IsYearUndecidedFor (E.shown t)) }
     ensures counted { trail.new.count ≡ next_turn trail.old.count }
 {
     let correction = correction_of_moment(t, trail)?;
@@ -177,7 +177,7 @@ pub fn centuries<E: Enclosure>(t: E, trail: &mut Trail) -> Result<E, Fail>
         (λ v. AreCenturies (greatest_of CENTURIES v)) t result }
     ensures recent { Measured1 E.BITS E.shown (2 ^ 44) (IsSince RECENT_START)
         (λ v. AreRecentCenturies (greatest_of CENTURIES v)) t result }
-    ensures open { IfErr result (IsYearOpenFor (E.shown t)) }
+    ensures open { IfErr result (IsYearUndecidedFor (E.shown t)) }
     ensures counted { trail.new.count ≡ next_turn trail.old.count }
 {
     let moment = dynamical(t, trail)?;

@@ -8,8 +8,8 @@ ghost use Rattle.book_model.specs.sky.Correction.{year_of};
 ghost use Rattle.book_model.specs.numbers.Expressions.{World, integer};
 ghost use Rattle.book_model.specs.programs.Leading.{units_of_56, Exact, Leads, next_turn};
 ghost use Rattle.book_model.specs.programs.Programs.{years, cell_of, cell_at};
-ghost use Rattle.time_scales.specs.Steps.{IsOpenYear};
-ghost use Rattle.time_scales.specs.Widths.{HasYearEnds};
+ghost use Rattle.time_scales.specs.Steps.{IsUndecidedYear};
+ghost use Rattle.time_scales.specs.Widths.{HasYearEndpoints};
 
 use book_model::{Fail, Site, Undecided};
 use encl_core::parts::ONE;
@@ -40,9 +40,9 @@ fn year_between(span: Span, turn: u32) -> Result<i64, Fail>
     ensures decided { IfOk result (λ y. cell_at years (between (units_of_56 span.lo)
         (units_of_56 span.hi))
         ≡ Some y) }
-    ensures open { IfErr result (IsOpenYear (between (units_of_56 span.lo) (units_of_56 span.hi))
+    ensures open { IfErr result (IsUndecidedYear (between (units_of_56 span.lo) (units_of_56 span.hi))
         turn) }
-    ensures ends { IfErr result (HasYearEnds span.lo span.hi) }
+    ensures endpoints { IfErr result (HasYearEndpoints span.lo span.hi) }
 {
     let first = year_at(span.lo);
     if first == year_beside(span.lo, first, span.hi) {
@@ -73,7 +73,7 @@ pub fn year_of_whole_day(day: i64, trail: &mut Trail) -> i64
 pub fn year<E: Enclosure>(t: E, trail: &mut Trail) -> Result<i64, Fail>
     ensures leads { Decides1 E.shown year_of t trail.old.count trail.new.count result }
     ensures decided { IfOk result (λ y. cell_at years (E.shown t) ≡ Some y) }
-    ensures open { IfErr result (IsOpenYear (E.shown t) trail.new.count) }
+    ensures open { IfErr result (IsUndecidedYear (E.shown t) trail.new.count) }
     ensures close { (v : ℕ) → v ≤ 2 ^ 44 → IsAbout (2 ^ 90) v (E.shown t) → IfErr result IsClose }
     ensures counted { trail.new.count ≡ next_turn trail.old.count }
 {

@@ -27,10 +27,10 @@ of_half_turn n = record { num = n; below = 180 * 2 ^ 56 - 1 }
 
 -- ---- products of three, where two are fractions
 -- a fraction times an interval lies in what holds its products with the two endpoints
-ends_product : (r lo hi : Fraction) (j : Interval) → IsMember (times r lo) j → IsMember (times r hi) j → product (only r) (between lo hi) ⊆ j
+endpoints_product : (r lo hi : Fraction) (j : Interval) → IsMember (times r lo) j → IsMember (times r hi) j → product (only r) (between lo hi) ⊆ j
 unfolding product
-ends_product r lo hi everything m n = within_everything _
-ends_product r lo hi (between c d) m n = record { ends = (least_is c _ _ _ _ m.0 n.0 m.0 n.0, greatest_is d _ _ _ _ m.1 n.1 m.1 n.1) }
+endpoints_product r lo hi everything m n = within_everything _
+endpoints_product r lo hi (between c d) m n = record { endpoints = (least_is c _ _ _ _ m.0 n.0 m.0 n.0, greatest_is d _ _ _ _ m.1 n.1 m.1 n.1) }
 
 regrouped : (r c s p : Fraction) → times r c ≈ s → times s p ≈ times r (times p c)
 regrouped r c s p e = same_trans (times_cong (same_sym e) (same_refl p)) (same_by (r ∷ c ∷ p ∷ []) ((at 0 ⊗ at 1) ⊗ at 2) (at 0 ⊗ (at 2 ⊗ at 1)) refl)
@@ -47,17 +47,17 @@ parted_member r c s p i e m =
     (product_holds (only r) (product i (only c)) r (times p c) (le_refl r, le_refl r) (product_holds i (only c) p c m (le_refl c, le_refl c)))
 
 -- what holds for both endpoints' products with c holds for the endpoints of the product
-ends_keep : (P : Fraction → Type 0) (a b c : Fraction) → P (times a c) → P (times b c)
+endpoints_keep : (P : Fraction → Type 0) (a b c : Fraction) → P (times a c) → P (times b c)
     → P (least (times a c) (times a c) (times b c) (times b c)) × P (greatest (times a c) (times a c) (times b c) (times b c))
 unfolding least greatest
-ends_keep P a b c x y =
+endpoints_keep P a b c x y =
     (smaller_keeps P _ _ (smaller_keeps P _ _ x x) (smaller_keeps P _ _ y y), larger_keeps P _ _ (larger_keeps P _ _ x x) (larger_keeps P _ _ y y))
 
-product_ends : (a b c : Fraction)
+product_endpoints : (a b c : Fraction)
     → product (between a b) (only c) ≡ between (least (times a c) (times a c) (times b c) (times b c))
     (greatest (times a c) (times a c) (times b c) (times b c))
 unfolding product
-product_ends a b c = refl
+product_endpoints a b c = refl
 
 all_products : (r : Fraction) (i : Interval) → i ⊆ product (only r) everything
 unfolding product
@@ -71,13 +71,13 @@ fractions_joined : (r c s : Fraction) (i : Interval) → IsProper i → times r 
 fractions_joined r c s everything p e = all_products s (product (only r) (product everything (only c)))
 fractions_joined r c s (between a b) p e =
     let m =
-    ends_keep (λ z. IsMember (times r z) (product (only s) (between a b))) a b c (joined_member r c s a (between a b) e (le_refl a, p))
+    endpoints_keep (λ z. IsMember (times r z) (product (only s) (between a b))) a b c (joined_member r c s a (between a b) e (le_refl a, p))
     (joined_member r c s b (between a b) e (p, le_refl b)) in
-    rw (product_ends a b c) (ends_product r _ _ _ m.0 m.1)
+    rw (product_endpoints a b c) (endpoints_product r _ _ _ m.0 m.1)
 
 fractions_parted : (r c s : Fraction) (i : Interval) → IsProper i → times r c ≈ s → product (only s) i ⊆ product (only r) (product i (only c))
 fractions_parted r c s everything p e = all_triples r c (product (only s) everything)
-fractions_parted r c s (between a b) p e = ends_product s a b _ (parted_member r c s a (between a b) e (le_refl a, p))
+fractions_parted r c s (between a b) p e = endpoints_product s a b _ (parted_member r c s a (between a b) e (le_refl a, p))
     (parted_member r c s b (between a b) e (p, le_refl b))
 
 -- ---- angles

@@ -15,7 +15,7 @@ use Rattle.encl_core.proofs.HighHalves.{IsHigh}
 use Rattle.trig_series.proofs.KernelSteps.{step_near, square_near, angle_fifths}
 use Rattle.trig_series.proofs.SineChain.{Keeps, next, near_same, step_at, nested, flipped, inner_nested}
 use Rattle.encl_core.specs.Units.{IsWithinUnits}
-use Rattle.trig_series.specs.Kernel.{IsCut, IsAngle, IsSquare, AreCosineEnds}
+use Rattle.trig_series.specs.Kernel.{IsCut, IsAngle, IsSquare, AreCosineEndpoints}
 
 abbrev ratio : ℕ → Fraction
 ratio k = falling (double k)
@@ -125,22 +125,22 @@ chained w j i h g f e d c b a u s k z q n =
     let n0 = on 0 18446744073709551615 w b a u _ k.k0 z cut_0 q n1 in
     rw (← nested_is u s) (near_same 320 a _ _ (one_times _) n0)
 
-cosine_ends : (e x : Fraction) → times (cosine_term x 0) (inner e (times x x) ratio 9) ≈ nested (times x x) ratio (flipped e 9) 9
-cosine_ends e x =
+cosine_endpoints : (e x : Fraction) → times (cosine_term x 0) (inner e (times x x) ratio 9) ≈ nested (times x x) ratio (flipped e 9) 9
+cosine_endpoints e x =
     same_trans (times_cong (cosine_one x) (inner_nested 9 e (times x x) ratio))
     (same_by (nested (times x x) ratio (flipped e 9) 9 ∷ []) (lit (pos 1) ⊗ at 0) (at 0) refl)
 
 pub low_is : (x : Fraction) → IsUpTo 4 5 x → nested (times x x) ratio (flipped (whole (negsuc 1)) 9) 9 ≤F lower (cosine_term x) 9
 low_is x h =
     rw (lower_is_beneath (cosine_term x) 9 ((cosine_halving x h).nonneg 9))
-    (ge_of_same (same_trans (beneath_is 9 (cosine_term x) (times x x) ratio (cosine_step_from_first x)) (cosine_ends (whole (negsuc 1)) x)))
+    (ge_of_same (same_trans (beneath_is 9 (cosine_term x) (times x x) ratio (cosine_step_from_first x)) (cosine_endpoints (whole (negsuc 1)) x)))
 
 pub high_is : (x : Fraction) → IsUpTo 4 5 x → upper (cosine_term x) 9 ≤F nested (times x x) ratio (flipped (whole (pos 2)) 9) 9
 high_is x h =
     rw (upper_is_atop (cosine_term x) 9 ((cosine_halving x h).nonneg 9))
-    (le_of_same (same_trans (atop_is 9 (cosine_term x) (times x x) ratio (cosine_step_from_first x)) (cosine_ends (whole (pos 2)) x)))
+    (le_of_same (same_trans (atop_is 9 (cosine_term x) (times x x) ratio (cosine_step_from_first x)) (cosine_endpoints (whole (pos 2)) x)))
 
-deeper : (k : ℕ) (x : Fraction) (s : ℕ) → IsUpTo 4 5 x → AreCosineEnds x s 9 → AreCosineEnds x s (k + 9)
+deeper : (k : ℕ) (x : Fraction) (s : ℕ) → IsUpTo 4 5 x → AreCosineEndpoints x s 9 → AreCosineEndpoints x s (k + 9)
 deeper zero x s h a = a
 deeper (suc k) x s h a =
     let b = deeper k x s h a in
@@ -151,7 +151,7 @@ deeper (suc k) x s h a =
     rw e (record { low = le_trans _ (lower (cosine_term x) (suc (k + 8))) _ g.low n.0; high = le_trans _ (upper (cosine_term x) (suc (k + 8))) _ n.1 g.high })
 
 pub cosine_near : (n angle w j i h g f e d c b a : ℕ) (x : Fraction) → 9 ≤ n → angle ≤ 14757395258967641292 → IsHigh w angle angle → IsAngle angle x
-    → Chain w j i h g f e d c b a → AreCosineEnds x a n
+    → Chain w j i h g f e d c b a → AreCosineEndpoints x a n
 cosine_near n angle w j i h g f e d c b a x l small p t k =
     let u = angle_fifths angle x t in
     let z = square_nonneg x u in

@@ -8,7 +8,7 @@ use Rattle.book_model.proofs.FractionRing.{same_by}
 use Rattle.book_model.proofs.Fractions.{le_trans}
 use Rattle.book_model.proofs.Same.{same_trans, same_sym}
 use Rattle.book_model.proofs.Certificates.{zero_F, ◌≼◌, ◌≗◌, known, multiple, ◌⊞◌, ◌⊠◌, natural, le_by, le_over}
-use Rattle.book_model.proofs.Alternating.{beneath, atop, beneath_step, tails, lower_is_beneath, sum_ends_in_order}
+use Rattle.book_model.proofs.Alternating.{beneath, atop, beneath_step, tails, lower_is_beneath, sum_endpoints_in_order}
 use Rattle.book_model.specs.programs.Leading.{units_of_56}
 use Rattle.book_model.specs.numbers.Series.{sine_term, cosine_term, over_factorial}
 use Rattle.book_model.proofs.Terms.{IsUpTo, sine_halving, sine_rising, sine_first, cosine_halving, cosine_falling, cosine_one}
@@ -78,7 +78,7 @@ pub cosine_above : (d : ℕ) (a : ℤ) → d ≤ OCTANT → upper (cosine_term (
     → ((pos (2 ^ 64) -ℤ a) *ℤ pos (6561 * 2 ^ 48)) ≤ℤ (pos d *ℤ pos d)
 cosine_above d a u h =
     let x = in_radians d in
-    let there = sum_ends_in_order 9 (cosine_term x) ((cosine_halving x (in_fifths d u)).nonneg 9) in
+    let there = sum_endpoints_in_order 9 (cosine_term x) ((cosine_halving x (in_fifths d u)).nonneg 9) in
     crest_parts d a (cosine_by_degrees d (at_64 a) (le_trans _ _ _ (cosine_lower_above d u) (plus_first _ _ _ (le_trans _ _ _ there h))))
 
 -- ---- the sine
@@ -141,5 +141,5 @@ rising_parts d a h = omega (arith, ints, h.cross)
 pub sine_above : (d : ℕ) (a : ℤ) → d ≤ OCTANT → upper (sine_term (in_radians d)) 8 ≤F at_64 a → (pos d *ℤ pos 5120) ≤ℤ (pos 1279 *ℤ a)
 sine_above d a u h =
     let x = in_radians d in
-    let there = sum_ends_in_order 8 (sine_term x) ((sine_halving x (in_fifths d u)).nonneg 9) in
+    let there = sum_endpoints_in_order 8 (sine_term x) ((sine_halving x (in_fifths d u)).nonneg 9) in
     rising_parts d a (sine_by_radians d (at_64 a) u (le_trans _ _ _ (sine_lower_above d u) (plus_first _ _ _ (le_trans _ _ _ there h))))

@@ -60,7 +60,7 @@ hull_span : (a b c d lo hi : ℤ) → lo ≤ℤ a → lo ≤ℤ c → b ≤ℤ h
     → interval_hull (between (units_of_56 a) (units_of_56 b)) (between (units_of_56 c) (units_of_56 d)) ⊆ between (units_of_56 lo) (units_of_56 hi)
 unfolding interval_hull
 hull_span a b c d lo hi p q r s = record {
-  ends = (
+  endpoints = (
     smaller_keeps (λ z. units_of_56 lo ≤F z) _ _ (order_at lo a p) (order_at lo c q),
     larger_keeps (λ z. z ≤F units_of_56 hi) _ _ (order_at b hi r) (order_at d hi s),
   );
@@ -75,7 +75,7 @@ spans_hull i j a b c d lo hi e f h k =
 
 opposite_span : (a b : ℤ) → negative (between (units_of_56 a) (units_of_56 b)) ⊆ between (units_of_56 (neg_ℤ b)) (units_of_56 (neg_ℤ a))
 unfolding negative opposite
-opposite_span a b = record { ends = (record { cross = omega (arith, ints) }, record { cross = omega (arith, ints) }) }
+opposite_span a b = record { endpoints = (record { cross = omega (arith, ints) }, record { cross = omega (arith, ints) }) }
 
 -- the opposite of what lies within a span lies within its opposite
 pub span_opposite : (i : Interval) (a b lo hi : ℤ) → lo ≡ neg_ℤ b → hi ≡ neg_ℤ a → i ⊆ between (units_of_56 a) (units_of_56 b)

@@ -4,7 +4,7 @@ use Rattle.std.proofs.lemmas.Int.{ints, clamps, by_lt_z}
 use Rattle.book_model.specs.Fraction.{Fraction, ◌≤F◌, ◌≈◌, plus, times}
 use Rattle.book_model.specs.Interval.{between, ◌⊆◌}
 use Rattle.book_model.specs.Sums.{upper}
-use Rattle.book_model.proofs.Alternating.{sum_ends_in_order}
+use Rattle.book_model.proofs.Alternating.{sum_endpoints_in_order}
 use Rattle.book_model.proofs.Certificates.{zero_F, ◌≼◌, ◌≗◌, known, multiple, ◌⊞◌, le_by}
 use Rattle.book_model.proofs.Fractions.{le_trans}
 use Rattle.book_model.proofs.Intervals.{within_trans}
@@ -17,7 +17,7 @@ use Rattle.book_model.proofs.SeriesNesting.{sines, sine_lowers, cosine_lowers, i
 use Rattle.book_model.proofs.Terms.{IsUpTo, sine_halving}
 use Rattle.encl_core.specs.Units.{at_64}
 use Rattle.encl_core.specs.parts.TheConstants.{OCTANT, QUARTER}
-use Rattle.trig_series.specs.Kernel.{in_radians, in_radians_above, IsInRadians, AreSineEnds, AreCosineEnds}
+use Rattle.trig_series.specs.Kernel.{in_radians, in_radians_above, IsInRadians, AreSineEndpoints, AreCosineEndpoints}
 use Rattle.trig_series.specs.Points.{IsAround, IsRising, IsCrest, IsPart, IsInside}
 use Rattle.trig_series.proofs.AngleLemmas.{at_in_turn, cosine_within}
 use Rattle.trig_series.proofs.KernelAngles.{by_lower, by_upper, radians_over, radians_small}
@@ -57,7 +57,7 @@ pub none_below : (d : ℕ) → zero_F ≤F in_radians d
 unfolding times
 none_below d = record { cross = omega (arith, ints) }
 
-sine_from : (n d e s : ℕ) (lo hi m : ℤ) → d ≤ e → e ≤ OCTANT → (pos e -ℤ pos d) ≤ℤ (pos 57 *ℤ m) → ((x : Fraction) → IsInRadians d x → AreSineEnds x s (suc n))
+sine_from : (n d e s : ℕ) (lo hi m : ℤ) → d ≤ e → e ≤ OCTANT → (pos e -ℤ pos d) ≤ℤ (pos 57 *ℤ m) → ((x : Fraction) → IsInRadians d x → AreSineEndpoints x s (suc n))
     → (lo *ℤ pos 256 +ℤ pos 384) ≤ℤ pos s → pos s ≤ℤ (hi *ℤ pos 256 -ℤ pos 384)
     → sine_series (suc n) (between (in_radians e) (in_radians_above e)) ⊆ between (units_of_56 lo) (units_of_56 (hi +ℤ m))
 unfolding sine_series
@@ -65,7 +65,7 @@ sine_from n d e s lo hi m o u w f l r =
     let v : d ≤ OCTANT = omega (arith, o, u) in
     rw (inside_in zero_F four_fifths (in_radians e) (in_radians_above e) (record { above = none_below e; below = radians_small e u }))
     (record {
-      ends = (
+      endpoints = (
         le_trans _ _ _ (low_end (pos s) (pos 384) lo l) (le_trans _ _ _ (f _ (by_lower d)).low
             (sine_lowers (suc n) _ _ (in_fifths d v) (in_fifths e u) (in_order d e o))),
         moved_up _ _ _ _ hi m (sine_slow n _ _ (above_fifths d v) (above_fifths e u) (above_in_order d e o))
@@ -79,7 +79,7 @@ unfolding plus times
 lower_close d e m o h = record { cross = omega (arith, ints, o, h) }
 
 cosine_from : (n d e s : ℕ) (lo hi m : ℤ) → d ≤ e → e ≤ OCTANT → (pos e -ℤ pos d) ≤ℤ (pos 57 *ℤ m)
-    → ((x : Fraction) → IsInRadians e x → AreCosineEnds x s (suc (suc n)))
+    → ((x : Fraction) → IsInRadians e x → AreCosineEndpoints x s (suc (suc n)))
     → (lo *ℤ pos 256 +ℤ pos 384) ≤ℤ pos s → pos s ≤ℤ (hi *ℤ pos 256 -ℤ pos 384)
     → cosine_series (suc (suc n)) (between (in_radians d) (in_radians_above d)) ⊆ between (units_of_56 lo) (units_of_56 (hi +ℤ m))
 unfolding cosine_series
@@ -87,7 +87,7 @@ cosine_from n d e s lo hi m o u w f l r =
     let v : d ≤ OCTANT = omega (arith, o, u) in
     rw (inside_in zero_F four_fifths (in_radians d) (in_radians_above d) (record { above = none_below d; below = radians_small d v }))
     (record {
-      ends = (
+      endpoints = (
         le_trans _ _ _ (low_end (pos s) (pos 320) lo (omega (arith, ints, l)))
             (le_trans _ _ _ (f _ (by_upper e)).low (cosine_lowers (suc n) _ _ (above_fifths d v) (above_fifths e u) (above_in_order d e o))),
         moved_up _ _ _ _ hi m (cosine_upper_slow n _ _ (in_fifths d v) (in_fifths e u) (in_order d e o))
@@ -96,7 +96,7 @@ cosine_from n d e s lo hi m o u w f l r =
     })
 
 pub sine_part_holds : (n d e s : ℕ) (y : Fraction) (lo hi m : ℤ) → 40 ≤ n → d ≤ e → e ≤ OCTANT → (pos e -ℤ pos d) ≤ℤ (pos 57 *ℤ m)
-    → ((k : ℕ) (x : Fraction) → 8 ≤ k → IsInRadians d x → AreSineEnds x s k)
+    → ((k : ℕ) (x : Fraction) → 8 ≤ k → IsInRadians d x → AreSineEndpoints x s k)
     → (lo *ℤ pos 256 +ℤ pos 384) ≤ℤ pos s → pos s ≤ℤ (hi *ℤ pos 256 -ℤ pos 384) → y ≈ units_of_56 (pos e)
     → sine_series n (radians n y) ⊆ between (units_of_56 lo) (units_of_56 (hi +ℤ m))
 sine_part_holds zero d e s y lo hi m h o u w f l r g = absurd (omega (arith, h))
@@ -106,7 +106,7 @@ sine_part_holds (suc n) d e s y lo hi m h o u w f l r g =
     (sine_from n d e s lo hi m o u w (λ x t. f (suc n) x (omega (arith, h)) t) l r))
 
 pub cosine_part_holds : (n d e s : ℕ) (y : Fraction) (lo hi m : ℤ) → 40 ≤ n → d ≤ e → e ≤ OCTANT → (pos e -ℤ pos d) ≤ℤ (pos 57 *ℤ m)
-    → ((k : ℕ) (x : Fraction) → 9 ≤ k → IsInRadians e x → AreCosineEnds x s k)
+    → ((k : ℕ) (x : Fraction) → 9 ≤ k → IsInRadians e x → AreCosineEndpoints x s k)
     → (lo *ℤ pos 256 +ℤ pos 384) ≤ℤ pos s → pos s ≤ℤ (hi *ℤ pos 256 -ℤ pos 384) → y ≈ units_of_56 (pos d)
     → cosine_series n (radians n y) ⊆ between (units_of_56 lo) (units_of_56 (hi +ℤ m))
 cosine_part_holds zero d e s y lo hi m h o u w f l r g = absurd (omega (arith, h))
@@ -121,11 +121,11 @@ no_part : units_of_56 (pos 0) ≤F zero_F
 no_part = record { cross = omega (arith, ints) }
 
 -- the sine is at most its angle
-sine_up_to : (d s : ℕ) → d ≤ OCTANT → AreSineEnds (in_radians d) s 8 → at_64 (pos s -ℤ pos 384) ≤F in_radians d
+sine_up_to : (d s : ℕ) → d ≤ OCTANT → AreSineEndpoints (in_radians d) s 8 → at_64 (pos s -ℤ pos 384) ≤F in_radians d
 sine_up_to d s u h =
     let y = in_fifths d u in
     let z = sine_zero (in_radians 0) none_in_radians in
-    le_trans _ _ _ h.low (le_trans _ _ _ (sum_ends_in_order 8 (sine_term (in_radians d)) ((sine_halving (in_radians d) y).nonneg 9))
+    le_trans _ _ _ h.low (le_trans _ _ _ (sum_endpoints_in_order 8 (sine_term (in_radians d)) ((sine_halving (in_radians d) y).nonneg 9))
     (le_by (upper (sine_term (in_radians d)) 8 ∷ upper (sine_term (in_radians 0)) 8 ∷ in_radians d ∷ in_radians 0 ∷ [])
     ((at 0 ⊕ at 3 ≼ at 1 ⊕ at 2) ∷ (at 1 ≼ lit (pos 0)) ∷ (at 3 ≗ lit (pos 0)) ∷ []) (at 0) (at 2)
     (known 0 ⊞ known 1 ⊞ multiple 2 (lit (negsuc 0))) refl
@@ -135,14 +135,14 @@ below_angle : (d : ℕ) (a : ℤ) → at_64 a ≤F in_radians d → (pos 57 *ℤ
 unfolding times
 below_angle d a h = omega (arith, ints, h.cross)
 
-pub sine_part_near : (d e s : ℕ) (lo hi m : ℤ) → d ≤ e → e ≤ OCTANT → (pos 57 *ℤ m) ≤ℤ ((pos e -ℤ pos d) +ℤ pos 56) → AreSineEnds (in_radians d) s 8
+pub sine_part_near : (d e s : ℕ) (lo hi m : ℤ) → d ≤ e → e ≤ OCTANT → (pos 57 *ℤ m) ≤ℤ ((pos e -ℤ pos d) +ℤ pos 56) → AreSineEndpoints (in_radians d) s 8
     → pos s ≤ℤ (lo *ℤ pos 256 +ℤ pos 767) → (hi *ℤ pos 256 -ℤ pos 768) ≤ℤ pos s → IsRising (pos d) (pos e) lo (hi +ℤ m)
 sine_part_near d e s lo hi m o u w h l r =
     let a = below_angle d (pos s -ℤ pos 384) (sine_up_to d s (omega (arith, o, u)) h) in
     let b = sine_above d (pos s +ℤ pos 384) (omega (arith, o, u)) h.high in
     record { up = omega (arith, ints, a, r, w, o); down = omega (arith, ints, b, l) }
 
-pub cosine_part_near : (e s : ℕ) (lo : ℤ) → e ≤ OCTANT → AreCosineEnds (in_radians e) s 9 → pos s ≤ℤ (lo *ℤ pos 256 +ℤ pos 767) → IsCrest (pos e) lo
+pub cosine_part_near : (e s : ℕ) (lo : ℤ) → e ≤ OCTANT → AreCosineEndpoints (in_radians e) s 9 → pos s ≤ℤ (lo *ℤ pos 256 +ℤ pos 767) → IsCrest (pos e) lo
 cosine_part_near e s lo u h l = let a = cosine_above e (pos s +ℤ pos 320) u h.high in record { down = omega (arith, ints, a, l) }
 
 -- ---- the octants of the first half turn

@@ -20,10 +20,10 @@ use Rattle.book_model.proofs.OctantHulls.{radians_proper}
 use Rattle.book_model.proofs.SeriesNesting.{sines, cosines, inside_in}
 use Rattle.encl_core.specs.Units.{at_64}
 use Rattle.encl_core.specs.parts.TheConstants.{ONE, OCTANT}
-use Rattle.trig_series.specs.Kernel.{in_radians, IsAngle, AreSineEnds, AreCosineEnds}
+use Rattle.trig_series.specs.Kernel.{in_radians, IsAngle, AreSineEndpoints, AreCosineEndpoints}
 use Rattle.trig_series.specs.Points.{IsNearSine, IsNearCosine}
 use Rattle.trig_series.proofs.AngleLemmas.{radians_in_angle, angle_in_radians, cosine_within}
-use Rattle.trig_series.proofs.KernelAngles.{ends_product, product_ends, sine_there, cosine_there, radians_near, angle_between, by_lower}
+use Rattle.trig_series.proofs.KernelAngles.{endpoints_product, product_endpoints, sine_there, cosine_there, radians_near, angle_between, by_lower}
 use Rattle.encl_core.proofs.HighHalves.{IsHigh}
 use Rattle.trig_series.proofs.KernelSteps.{step_near}
 use Rattle.trig_series.proofs.SineChain.{sine_near, low_is as sine_low, high_is as sine_high, nested, flipped, step_at, Keeps, Chain, innermost}
@@ -36,21 +36,21 @@ low_end s e lo h = record { cross = omega (arith, ints, h) }
 pub high_end : (s e hi : ℤ) → s ≤ℤ (hi *ℤ pos 256 -ℤ e) → at_64 (s +ℤ e) ≤F units_of_56 hi
 high_end s e hi h = record { cross = omega (arith, ints, h) }
 
-pub ends_hold : (i : Interval) (s : ℕ) (e lo hi : ℤ) → i ⊆ between (at_64 (pos s -ℤ e)) (at_64 (pos s +ℤ e)) → (lo *ℤ pos 256 +ℤ e) ≤ℤ pos s
+pub endpoints_hold : (i : Interval) (s : ℕ) (e lo hi : ℤ) → i ⊆ between (at_64 (pos s -ℤ e)) (at_64 (pos s +ℤ e)) → (lo *ℤ pos 256 +ℤ e) ≤ℤ pos s
     → pos s ≤ℤ (hi *ℤ pos 256 -ℤ e) → i ⊆ between (units_of_56 lo) (units_of_56 hi)
-ends_hold i s e lo hi h l u = within_trans h (record { ends = (low_end (pos s) e lo l, high_end (pos s) e hi u) })
+endpoints_hold i s e lo hi h l u = within_trans h (record { endpoints = (low_end (pos s) e lo l, high_end (pos s) e hi u) })
 
 at_mono : (a b : ℤ) → a ≤ℤ b → at_64 a ≤F at_64 b
 at_mono a b h = record { cross = omega (arith, ints, h) }
 
-pub sine_close : (d s : ℕ) (lo hi : ℤ) → AreSineEnds (in_radians d) s 8 → pos s ≤ℤ (lo *ℤ pos 256 +ℤ pos 768) → (hi *ℤ pos 256 -ℤ pos 768) ≤ℤ pos s
+pub sine_close : (d s : ℕ) (lo hi : ℤ) → AreSineEndpoints (in_radians d) s 8 → pos s ≤ℤ (lo *ℤ pos 256 +ℤ pos 768) → (hi *ℤ pos 256 -ℤ pos 768) ≤ℤ pos s
     → IsNearSine d lo hi
 sine_close d s lo hi a l u = record {
   low = le_trans _ _ _ a.high (at_mono _ _ (omega (arith, ints, l)));
   high = le_trans _ _ _ (at_mono _ _ (omega (arith, ints, u))) a.low;
 }
 
-pub cosine_close : (d s : ℕ) (lo hi : ℤ) → AreCosineEnds (in_radians d) s 9 → pos s ≤ℤ (lo *ℤ pos 256 +ℤ pos 768) → (hi *ℤ pos 256 -ℤ pos 768) ≤ℤ pos s
+pub cosine_close : (d s : ℕ) (lo hi : ℤ) → AreCosineEndpoints (in_radians d) s 9 → pos s ≤ℤ (lo *ℤ pos 256 +ℤ pos 768) → (hi *ℤ pos 256 -ℤ pos 768) ≤ℤ pos s
     → IsNearCosine d lo hi
 cosine_close d s lo hi a l u = record {
   low = le_trans _ _ _ a.high (at_mono _ _ (omega (arith, ints, l)));
@@ -78,7 +78,7 @@ zero_member : (z : Fraction) → IsMember (times (units_of_56 (pos 0)) z) (betwe
 zero_member z = (ge_of_same (zero_times z), le_of_same (zero_times z))
 
 zero_product : (a b c : Fraction) → product (only (units_of_56 (pos 0))) (product (between a b) (only c)) ⊆ between zero_F zero_F
-zero_product a b c = rw (product_ends a b c) (ends_product (units_of_56 (pos 0)) _ _ zero_F zero_F (zero_member _) (zero_member _))
+zero_product a b c = rw (product_endpoints a b c) (endpoints_product (units_of_56 (pos 0)) _ _ zero_F zero_F (zero_member _) (zero_member _))
 
 radians_zero : (n : ℕ) → 12 ≤ n → radians n (units_of_56 (pos 0)) ⊆ between zero_F zero_F
 unfolding radians
@@ -125,26 +125,26 @@ cosine_zero x e =
     )
 
 both_zero : (x y : Fraction) → x ≤F y → between x y ⊆ between zero_F zero_F → (x ≈ zero_F) × (y ≈ zero_F)
-both_zero x y p h = (same_of_le (le_trans _ _ _ p h.ends.1) h.ends.0, same_of_le h.ends.1 (le_trans _ _ _ h.ends.0 p))
+both_zero x y p h = (same_of_le (le_trans _ _ _ p h.endpoints.1) h.endpoints.0, same_of_le h.endpoints.1 (le_trans _ _ _ h.endpoints.0 p))
 
 zero_fifths : zero_F ≤F four_fifths
 zero_fifths = record { cross = omega (arith, ints) }
 
 sine_none : (i : Interval) → IsProper i → i ⊆ between zero_F zero_F → sine_series 8 i ⊆ between (units_of_56 (pos 0)) (units_of_56 (pos 0))
 unfolding sine_series
-sine_none everything p h = absurd h.ends
+sine_none everything p h = absurd h.endpoints
 sine_none (between x y) p h =
     let z = both_zero x y p h in
-    rw (inside_in zero_F four_fifths x y (record { above = h.ends.0; below = le_trans _ _ _ h.ends.1 zero_fifths }))
-    (record { ends = ((sine_zero x z.0).0, (sine_zero y z.1).1) })
+    rw (inside_in zero_F four_fifths x y (record { above = h.endpoints.0; below = le_trans _ _ _ h.endpoints.1 zero_fifths }))
+    (record { endpoints = ((sine_zero x z.0).0, (sine_zero y z.1).1) })
 
 cosine_full : (i : Interval) → IsProper i → i ⊆ between zero_F zero_F → cosine_series 9 i ⊆ between (units_of_56 ONE) (units_of_56 ONE)
 unfolding cosine_series
-cosine_full everything p h = absurd h.ends
+cosine_full everything p h = absurd h.endpoints
 cosine_full (between x y) p h =
     let z = both_zero x y p h in
-    rw (inside_in zero_F four_fifths x y (record { above = h.ends.0; below = le_trans _ _ _ h.ends.1 zero_fifths }))
-    (record { ends = ((cosine_zero y z.1).0, (cosine_zero x z.0).1) })
+    rw (inside_in zero_F four_fifths x y (record { above = h.endpoints.0; below = le_trans _ _ _ h.endpoints.1 zero_fifths }))
+    (record { endpoints = ((cosine_zero y z.1).0, (cosine_zero x z.0).1) })
 
 cosine_deeper : (n : ℕ) (i : Interval) → 10 ≤ n → IsProper i → cosine_series n i ⊆ cosine_series 9 i
 cosine_deeper zero i h p = absurd (omega arith)
@@ -241,14 +241,14 @@ cosine_chain = record {
       (high 5402926248376769365 11378879155978302076 8758894121884635386 (omega arith) (omega arith)) (omega arith) (omega arith);
 }
 
-pub sine_eighth : (n : ℕ) (x : Fraction) → 8 ≤ n → IsAngle 14488038916154245630 x → AreSineEnds x 13043817825332782175 n
+pub sine_eighth : (n : ℕ) (x : Fraction) → 8 ≤ n → IsAngle 14488038916154245630 x → AreSineEndpoints x 13043817825332782175 n
 sine_eighth n x l i =
     sine_near n 14488038916154245630 11378879155978302076 51862 14074536 2953688836 460307848123 50550340485508 3628886277159895 151484387782656051
     2981014159346006776 16607904669535111438 13043817825332782175 x l (omega arith) (omega arith)
     (high 11378879155978302076 14488038916154245630 14488038916154245630 (omega arith) (omega arith))
     (high 13043817825332782175 14488038916154245630 16607904669535111438 (omega arith) (omega arith)) i sine_chain
 
-pub cosine_eighth : (n : ℕ) (x : Fraction) → 9 ≤ n → IsAngle 14488038916154245630 x → AreCosineEnds x 13043817825332782250 n
+pub cosine_eighth : (n : ℕ) (x : Fraction) → 9 ≤ n → IsAngle 14488038916154245630 x → AreCosineEndpoints x 13043817825332782250 n
 cosine_eighth n x l i =
     cosine_near n 14488038916154245630 11378879155978302076 2881 879880 211055154 38380629895 5059753048715 454387423514269 25340188872969900 752983233927995943
     8758894121884635386 13043817825332782250 x l (omega arith)
@@ -261,13 +261,13 @@ eighth_radians n l = radians_near n OCTANT 7244019458077122815 (omega (arith, l)
 pub sine_of_eighth : (n : ℕ) → 40 ≤ n → sine_series n (radians n (units_of_56 (pos OCTANT))) ⊆ between (units_of_56 (pos 50952413380206178))
     (units_of_56 (pos 50952413380206182))
 sine_of_eighth n l =
-    ends_hold _ 13043817825332782175 (pos 384) _ _ (sine_there n OCTANT 14488038916154245630 13043817825332782175 (omega (arith, l)) (omega arith)
+    endpoints_hold _ 13043817825332782175 (pos 384) _ _ (sine_there n OCTANT 14488038916154245630 13043817825332782175 (omega (arith, l)) (omega arith)
     (eighth_radians n l) (λ x m i. sine_eighth n x m i)) (omega (arith, ints)) (omega (arith, ints))
 
 pub cosine_of_eighth : (n : ℕ) → 40 ≤ n
     → cosine_series n (radians n (units_of_56 (pos OCTANT))) ⊆ between (units_of_56 (pos 50952413380206178)) (units_of_56 (pos 50952413380206182))
 cosine_of_eighth n l =
-    ends_hold _ 13043817825332782250 (pos 320) _ _ (cosine_there n OCTANT 14488038916154245630 13043817825332782250 (omega (arith, l)) (omega arith)
+    endpoints_hold _ 13043817825332782250 (pos 320) _ _ (cosine_there n OCTANT 14488038916154245630 13043817825332782250 (omega (arith, l)) (omega arith)
     (eighth_radians n l) (λ x m i. cosine_eighth n x m i)) (omega (arith, ints)) (omega (arith, ints))
 
 pub near_sine_eighth : IsNearSine OCTANT (pos 50952413380206178) (pos 50952413380206182)
@@ -280,9 +280,9 @@ near_cosine_eighth = cosine_close OCTANT 13043817825332782250 _ _ (cosine_eighth
 pub sine_around : (d s : ℕ) (lo hi : ℤ) (n : ℕ) (y : Fraction)
     → sine_series n (radians n (units_of_56 (pos d))) ⊆ between (at_64 (pos s -ℤ pos 384)) (at_64 (pos s +ℤ pos 384)) → (lo *ℤ pos 256 +ℤ pos 384) ≤ℤ pos s
     → pos s ≤ℤ (hi *ℤ pos 256 -ℤ pos 384) → y ≈ units_of_56 (pos d) → sine_series n (radians n y) ⊆ between (units_of_56 lo) (units_of_56 hi)
-sine_around d s lo hi n y h l u e = sine_same n d y _ e (ends_hold _ s (pos 384) lo hi h l u)
+sine_around d s lo hi n y h l u e = sine_same n d y _ e (endpoints_hold _ s (pos 384) lo hi h l u)
 
 pub cosine_around : (d s : ℕ) (lo hi : ℤ) (n : ℕ) (y : Fraction) → 40 ≤ n
     → cosine_series n (radians n (units_of_56 (pos d))) ⊆ between (at_64 (pos s -ℤ pos 320)) (at_64 (pos s +ℤ pos 320)) → (lo *ℤ pos 256 +ℤ pos 384) ≤ℤ pos s
     → pos s ≤ℤ (hi *ℤ pos 256 -ℤ pos 384) → y ≈ units_of_56 (pos d) → cosine_series n (radians n y) ⊆ between (units_of_56 lo) (units_of_56 hi)
-cosine_around d s lo hi n y m h l u e = cosine_same n d y _ m e (ends_hold _ s (pos 320) lo hi h (omega (arith, ints, l)) (omega (arith, ints, u)))
+cosine_around d s lo hi n y m h l u e = cosine_same n d y _ m e (endpoints_hold _ s (pos 320) lo hi h (omega (arith, ints, l)) (omega (arith, ints, u)))

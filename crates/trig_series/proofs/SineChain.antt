@@ -14,7 +14,7 @@ use Rattle.book_model.proofs.Terms.{IsUpTo, square_nonneg, falling, sine_index, 
 use Rattle.encl_core.proofs.HighHalves.{IsHigh}
 use Rattle.trig_series.proofs.KernelSteps.{step_near, square_near, product_above, product_below, angle_fifths}
 use Rattle.encl_core.specs.Units.{IsWithinUnits}
-use Rattle.trig_series.specs.Kernel.{IsCut, IsAngle, IsSquare, AreSineEnds}
+use Rattle.trig_series.specs.Kernel.{IsCut, IsAngle, IsSquare, AreSineEndpoints}
 
 -- 1 - u r s
 abbrev pub step_at : Fraction → Fraction → Fraction → Fraction
@@ -56,9 +56,9 @@ inner_nested (suc n) e u r =
     plus_cong (same_refl (whole (pos 1))) (opposite_cong (times_cong (same_refl (times u (r 0))) (inner_nested n (opposite e) u (λ k. r (suc k)))))
 
 -- the sine's endpoints at depth 8 are the angle times what the chain gives
-pub sine_ends : (e x : Fraction)
+pub sine_endpoints : (e x : Fraction)
     → times (sine_term x 0) (inner e (times x x) (λ k. falling (sine_index k)) 8) ≈ times x (nested (times x x) (λ k. falling (sine_index k)) (flipped e 8) 8)
-sine_ends e x = times_cong (sine_first x) (inner_nested 8 e (times x x) (λ k. falling (sine_index k)))
+sine_endpoints e x = times_cong (sine_first x) (inner_nested 8 e (times x x) (λ k. falling (sine_index k)))
 
 -- ---- the sine's coefficients in 64 bits
 abbrev ratio : ℕ → Fraction
@@ -168,14 +168,14 @@ chained w i h g f e d c b a u s k z q n =
 pub low_is : (x : Fraction) → IsUpTo 4 5 x → times x (nested (times x x) ratio (flipped (whole (negsuc 1)) 8) 8) ≤F lower (sine_term x) 8
 low_is x h =
     rw (lower_is_beneath (sine_term x) 8 ((sine_halving x h).nonneg 9))
-    (ge_of_same (same_trans (beneath_is 8 (sine_term x) (times x x) ratio (sine_step x)) (sine_ends (whole (negsuc 1)) x)))
+    (ge_of_same (same_trans (beneath_is 8 (sine_term x) (times x x) ratio (sine_step x)) (sine_endpoints (whole (negsuc 1)) x)))
 
 pub high_is : (x : Fraction) → IsUpTo 4 5 x → upper (sine_term x) 8 ≤F times x (nested (times x x) ratio (flipped (whole (pos 2)) 8) 8)
 high_is x h =
     rw (upper_is_atop (sine_term x) 8 ((sine_halving x h).nonneg 9))
-    (le_of_same (same_trans (atop_is 8 (sine_term x) (times x x) ratio (sine_step x)) (sine_ends (whole (pos 2)) x)))
+    (le_of_same (same_trans (atop_is 8 (sine_term x) (times x x) ratio (sine_step x)) (sine_endpoints (whole (pos 2)) x)))
 
-deeper : (k : ℕ) (x : Fraction) (s : ℕ) → IsUpTo 4 5 x → AreSineEnds x s 8 → AreSineEnds x s (k + 8)
+deeper : (k : ℕ) (x : Fraction) (s : ℕ) → IsUpTo 4 5 x → AreSineEndpoints x s 8 → AreSineEndpoints x s (k + 8)
 deeper zero x s h a = a
 deeper (suc k) x s h a =
     let b = deeper k x s h a in
@@ -183,18 +183,18 @@ deeper (suc k) x s h a =
     let e : suc k + 8 ≡ suc (k + 8) = omega arith in
     rw e (record { low = le_trans _ (lower (sine_term x) (k + 8)) _ b.low n.0; high = le_trans _ (upper (sine_term x) (k + 8)) _ n.1 b.high })
 
-pub ends_from : (n : ℕ) (x : Fraction) (s : ℕ) → 8 ≤ n → IsUpTo 4 5 x → AreSineEnds x s 8 → AreSineEnds x s n
-ends_from n x s l h a = let e : n ≡ (n - 8) + 8 = omega (arith, l) in rw e (deeper (n - 8) x s h a)
+pub endpoints_from : (n : ℕ) (x : Fraction) (s : ℕ) → 8 ≤ n → IsUpTo 4 5 x → AreSineEndpoints x s 8 → AreSineEndpoints x s n
+endpoints_from n x s l h a = let e : n ≡ (n - 8) + 8 = omega (arith, l) in rw e (deeper (n - 8) x s h a)
 
 pub sine_near : (n angle w i h g f e d c b a s : ℕ) (x : Fraction) → 8 ≤ n → angle ≤ 14757395258967641292 → a ≤ 2 ^ 64 → IsHigh w angle angle
     → IsHigh s angle a → IsAngle angle x
-    → Chain w i h g f e d c b a → AreSineEnds x s n
+    → Chain w i h g f e d c b a → AreSineEndpoints x s n
 sine_near n angle w i h g f e d c b a s x l small top p q t k =
     let u = angle_fifths angle x t in
     let z = square_nonneg x u in
     let y = square_near w angle x small p t in
     let v = λ (r : Fraction) (m : IsWithinUnits 320 0 (tenth r)). chained w i h g f e d c b a (times x x) r k z y m in
-    ends_from n x s l u
+    endpoints_from n x s l u
     (record {
       low = le_trans _ _ _ (product_above s angle a x _ q t (v (flipped (whole (negsuc 1)) 8) start_low)) (low_is x u);
       high = le_trans _ _ _ (high_is x u) (product_below s angle a x _ top q t (v (flipped (whole (pos 2)) 8) start_high));

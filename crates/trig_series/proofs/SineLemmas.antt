@@ -29,7 +29,7 @@ use Rattle.trig_series.proofs.OctantLemmas.{order_at, by_max, by_min}
 
 -- ---- whatever a sine may be
 all_inside : (lo hi : ℤ) → lo ≡ neg_ℤ ONE → hi ≡ ONE → all_sines ⊆ between (units_of_56 lo) (units_of_56 hi)
-all_inside lo hi e f = rw (e, f) (record { ends = (record { cross = omega (arith, ints) }, record { cross = omega (arith, ints) }) })
+all_inside lo hi e f = rw (e, f) (record { endpoints = (record { cross = omega (arith, ints) }, record { cross = omega (arith, ints) }) })
 
 pub all_hold : (n : ℕ) (i : Interval) (lo hi : ℤ) → IsProper i → lo ≡ neg_ℤ ONE → hi ≡ ONE → sine_of_degrees n i ⊆ between (units_of_56 lo) (units_of_56 hi)
 all_hold n i lo hi p e f = within_trans (sine_inside n i p) (all_inside lo hi e f)
@@ -56,9 +56,9 @@ high_cut a hi p q e f h u =
 within_cut : (i : Interval) (lo hi p q p' q' : ℤ) → IsProper i → i ⊆ all_sines → i ⊆ between (units_of_56 lo) (units_of_56 hi) → p ≡ int_max lo (neg_ℤ ONE)
     → q ≡ int_min p ONE
     → p' ≡ int_max hi (neg_ℤ ONE) → q' ≡ int_min p' ONE → i ⊆ between (units_of_56 q) (units_of_56 q')
-within_cut everything lo hi p q p' q' n h k e f e' f' = absurd h.ends
+within_cut everything lo hi p q p' q' n h k e f e' f' = absurd h.endpoints
 within_cut (between a b) lo hi p q p' q' n h k e f e' f' = record {
-  ends = (low_cut a lo p q e f k.ends.0 h.ends.0 (le_trans a b one n h.ends.1), high_cut b hi p' q' e' f' k.ends.1 h.ends.1);
+  endpoints = (low_cut a lo p q e f k.endpoints.0 h.endpoints.0 (le_trans a b one n h.endpoints.1), high_cut b hi p' q' e' f' k.endpoints.1 h.endpoints.1);
 }
 
 pub cut_holds : (n : ℕ) (i : Interval) (lo hi p q p' q' : ℤ) → IsProper i → sine_of_degrees n i ⊆ between (units_of_56 lo) (units_of_56 hi) → p
@@ -162,7 +162,7 @@ apart_sine from to lo hi h e f = record {
 quarter_more : (from to a b : ℤ) → a ≡ from +ℤ QUARTER → b ≡ to +ℤ QUARTER
     → sum (between (units_of_56 from) (units_of_56 to)) (only (whole (pos 90))) ⊆ between (units_of_56 a) (units_of_56 b)
 unfolding sum plus
-quarter_more from to a b e f = rw (e, f) (record { ends = (record { cross = omega (arith, ints) }, record { cross = omega (arith, ints) }) })
+quarter_more from to a b e f = rw (e, f) (record { endpoints = (record { cross = omega (arith, ints) }, record { cross = omega (arith, ints) }) })
 
 pub quarter_holds : (n : ℕ) (from to a b lo hi : ℤ) → from ≤ℤ to → a ≡ from +ℤ QUARTER → b ≡ to +ℤ QUARTER
     → sine_of_degrees n (between (units_of_56 a) (units_of_56 b)) ⊆ between (units_of_56 lo) (units_of_56 hi)
@@ -246,9 +246,9 @@ span_keeps w unbounded i lo hi o g h k = tt
 span_keeps w (bounded a b s t) everything lo hi o g h k = absurd k
 span_keeps w (bounded a b s t) (between c d) lo hi o g h k = record {
   ordered = order_at lo hi o;
-  above = le_trans _ _ _ k.above h.ends.0;
-  below = le_trans _ _ _ h.ends.1 k.below;
-  close = le_trans _ _ _ h.ends.1 (le_trans _ _ _ k.close (plus_mono _ _ _ _ h.ends.0 (le_refl _)));
+  above = le_trans _ _ _ k.above h.endpoints.0;
+  below = le_trans _ _ _ h.endpoints.1 k.below;
+  close = le_trans _ _ _ h.endpoints.1 (le_trans _ _ _ k.close (plus_mono _ _ _ _ h.endpoints.0 (le_refl _)));
 }
 
 -- endpoints that keep a bound, in whole numbers

@@ -6,7 +6,7 @@ use Rattle.book_model.specs.Fraction.{◌≤F◌, plus, times}
 use Rattle.book_model.proofs.Ring.{at, lit, ◌⊗◌}
 use Rattle.book_model.proofs.Bounds.{◌≼◌, known as certain, ◌⊞◌, ◌⊠◌, times as twice, le_by as le_between}
 use Rattle.book_model.proofs.Fractions.{le_refl, le_trans, plus_mono}
-use Rattle.book_model.proofs.Alternating.{sum_ends_in_order}
+use Rattle.book_model.proofs.Alternating.{sum_endpoints_in_order}
 use Rattle.book_model.specs.numbers.Octants.{octant_of_turn}
 use Rattle.book_model.specs.numbers.Series.{sine_term, cosine_term}
 use Rattle.book_model.proofs.Terms.{sine_halving, cosine_halving}
@@ -37,7 +37,7 @@ sine_steady d e a b a' b' l u p q =
     let x = in_fifths d (omega (arith, l, u)) in
     let y = in_fifths e u in
     let o = in_order d e l in
-    let there = sum_ends_in_order 8 (sine_term (in_radians e)) ((sine_halving (in_radians e) y).nonneg 9) in
+    let there = sum_endpoints_in_order 8 (sine_term (in_radians e)) ((sine_halving (in_radians e) y).nonneg 9) in
     record {
       up =
           by_angles d e b' a (le_trans _ _ _ (plus_mono _ _ _ _ (le_trans _ _ _ q.high there) (le_refl (in_radians d)))
@@ -53,7 +53,7 @@ cosine_steady d e a b a' b' l u p q =
     let x = in_fifths d (omega (arith, l, u)) in
     let y = in_fifths e u in
     let o = in_order d e l in
-    let there = sum_ends_in_order 9 (cosine_term (in_radians e)) ((cosine_halving (in_radians e) y).nonneg 9) in
+    let there = sum_endpoints_in_order 9 (cosine_term (in_radians e)) ((cosine_halving (in_radians e) y).nonneg 9) in
     record {
       up =
           more _ (pos e -ℤ pos d) _ (by_order b' a (le_trans _ _ _ q.high (le_trans _ _ _ there (le_trans _ _ _ (cosine_uppers 8 _ _ x y o) p.low))))

@@ -61,14 +61,14 @@ later_begins (pos (suc (suc (suc (suc j))))) a b lo hi h e f p =
     let q : pos (suc (suc (suc (suc j)))) -ℤ pos 4 ≡ pos j = omega (arith, ints) in
     opposite_at (edge_of j) a b lo hi e f (rw q at p)
 
-pub later_ends : (o a b lo hi : ℤ) → pos 4 ≤ℤ o → lo ≡ neg_ℤ b → hi ≡ neg_ℤ a → IsAt (edge_of (suc (unsigned_abs (o -ℤ pos 4)))) a b
+pub later_endpoints : (o a b lo hi : ℤ) → pos 4 ≤ℤ o → lo ≡ neg_ℤ b → hi ≡ neg_ℤ a → IsAt (edge_of (suc (unsigned_abs (o -ℤ pos 4)))) a b
     → IsAt (edge_of (suc (unsigned_abs o))) lo hi
-later_ends (negsuc m) a b lo hi h e f p = absurd (omega (arith, ints))
-later_ends (pos zero) a b lo hi h e f p = absurd (omega (arith, ints))
-later_ends (pos (suc zero)) a b lo hi h e f p = absurd (omega (arith, ints))
-later_ends (pos (suc (suc zero))) a b lo hi h e f p = absurd (omega (arith, ints))
-later_ends (pos (suc (suc (suc zero)))) a b lo hi h e f p = absurd (omega (arith, ints))
-later_ends (pos (suc (suc (suc (suc j))))) a b lo hi h e f p =
+later_endpoints (negsuc m) a b lo hi h e f p = absurd (omega (arith, ints))
+later_endpoints (pos zero) a b lo hi h e f p = absurd (omega (arith, ints))
+later_endpoints (pos (suc zero)) a b lo hi h e f p = absurd (omega (arith, ints))
+later_endpoints (pos (suc (suc zero))) a b lo hi h e f p = absurd (omega (arith, ints))
+later_endpoints (pos (suc (suc (suc zero)))) a b lo hi h e f p = absurd (omega (arith, ints))
+later_endpoints (pos (suc (suc (suc (suc j))))) a b lo hi h e f p =
     let q : pos (suc (suc (suc (suc j)))) -ℤ pos 4 ≡ pos j = omega (arith, ints) in
     opposite_at (edge_of (suc j)) a b lo hi e f (rw q at p)
 

@@ -26,12 +26,12 @@ pub record IsSquare (w : ℕ) (u : Fraction) : Type 0 where
   pub small : u ≤F record { num = pos 16; below = 24 }
 
 -- at depth n the endpoints of the sine's sum at x are within 384 of s
-pub record AreSineEnds (x : Fraction) (s n : ℕ) : Type 0 where
+pub record AreSineEndpoints (x : Fraction) (s n : ℕ) : Type 0 where
   pub low : at_64 (pos s -ℤ pos 384) ≤F lower (sine_term x) n
   pub high : upper (sine_term x) n ≤F at_64 (pos s +ℤ pos 384)
 
 -- at depth n the endpoints of the cosine's sum at x are within 320 of s
-pub record AreCosineEnds (x : Fraction) (s n : ℕ) : Type 0 where
+pub record AreCosineEndpoints (x : Fraction) (s n : ℕ) : Type 0 where
   pub low : at_64 (pos s -ℤ pos 320) ≤F lower (cosine_term x) n
   pub high : upper (cosine_term x) n ≤F at_64 (pos s +ℤ pos 320)
 

@@ -13,7 +13,7 @@ ghost use Rattle.book_model.specs.numbers.Octants.{radians};
 ghost use Rattle.book_model.specs.numbers.Series.{sine_series, cosine_series};
 ghost use Rattle.encl_core.specs.parts.TheConstants.{OCTANT};
 ghost use Rattle.encl_core.specs.Units.{at_64, IsWithinUnits};
-ghost use Rattle.trig_series.specs.Kernel.{IsCut, IsSquare, IsAngle, AreSineEnds, AreCosineEnds, IsInRadians};
+ghost use Rattle.trig_series.specs.Kernel.{IsCut, IsSquare, IsAngle, AreSineEndpoints, AreCosineEndpoints, IsInRadians};
 
 use encl_core::high_half;
 
@@ -33,7 +33,7 @@ fn step(coefficient: u64, square: u64, inner: u64) -> u64
 #[inline(always)]
 fn sine_of_angle_64(angle: u64) -> u64
     requires small { angle ≤ 14757395258967641292 }
-    ensures near { (n : ℕ) (x : Fraction) → 8 ≤ n → IsAngle angle x → AreSineEnds x result n }
+    ensures near { (n : ℕ) (x : Fraction) → 8 ≤ n → IsAngle angle x → AreSineEndpoints x result n }
 {
     let square = high_half(angle, angle);
     let h = step(14_106_527, square, 51_862);
@@ -51,7 +51,7 @@ fn sine_of_angle_64(angle: u64) -> u64
 #[inline(always)]
 fn cosine_of_angle_64(angle: u64) -> u64
     requires small { angle ≤ 14757395258967641292 }
-    ensures near { (n : ℕ) (x : Fraction) → 9 ≤ n → IsAngle angle x → AreCosineEnds x result n }
+    ensures near { (n : ℕ) (x : Fraction) → 9 ≤ n → IsAngle angle x → AreCosineEndpoints x result n }
 {
     let square = high_half(angle, angle);
     let i = step(881_657, square, 2_881);
@@ -84,7 +84,7 @@ pub fn sine_of_degrees_56(degrees: u64) -> u64
     ensures near { (n : ℕ) → 12 ≤ n → sine_series n (radians n (units_of_56 (pos degrees)))
         ⊆ between
         (at_64 (pos result -ℤ pos 384)) (at_64 (pos result +ℤ pos 384)) }
-    ensures ends { (n : ℕ) (x : Fraction) → 8 ≤ n → IsInRadians degrees x → AreSineEnds x result n }
+    ensures endpoints { (n : ℕ) (x : Fraction) → 8 ≤ n → IsInRadians degrees x → AreSineEndpoints x result n }
 {
     sine_of_angle_64(angle(degrees))
 }
@@ -95,8 +95,8 @@ pub fn cosine_of_degrees_56(degrees: u64) -> u64
     ensures near { (n : ℕ) → 12 ≤ n → cosine_series n (radians n (units_of_56 (pos degrees)))
         ⊆ between
         (at_64 (pos result -ℤ pos 320)) (at_64 (pos result +ℤ pos 320)) }
-    ensures ends { (n : ℕ) (x : Fraction) → 9 ≤ n → IsInRadians degrees x
-        → AreCosineEnds x result n }
+    ensures endpoints { (n : ℕ) (x : Fraction) → 9 ≤ n → IsInRadians degrees x
+        → AreCosineEndpoints x result n }
 {
     cosine_of_angle_64(angle(degrees))
 }

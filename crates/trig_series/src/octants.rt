@@ -10,7 +10,7 @@ ghost use Rattle.trig_series.specs.Points.{IsPoint, edge_of, IsAt, IsSmall, IsAr
 ghost use Rattle.book_model.specs.numbers.Depth.{DEPTH};
 
 use crate::parts::part_of_turn;
-use crate::points::{cosine_ends_at_degrees, opposite, sine_ends_at_degrees};
+use crate::points::{cosine_endpoints_at_degrees, opposite, sine_endpoints_at_degrees};
 use encl_core::Span;
 use encl_core::parts::{OCTANT, WIDE_OCTANT};
 
@@ -26,18 +26,18 @@ fn sine_into_octant_of_half_turn(octant: i128, degrees: u64) -> Span
     ensures near { IsPoint (unsigned_abs octant) degrees result.lo result.hi }
     ensures room { IsSmall result.lo result.hi }
     ensures begins { degrees ≡ 0 → IsAt (edge_of (unsigned_abs octant)) result.lo result.hi }
-    ensures ends { degrees ≡ OCTANT → IsAt (edge_of (suc (unsigned_abs octant))) result.lo result.hi }
+    ensures endpoints { degrees ≡ OCTANT → IsAt (edge_of (suc (unsigned_abs octant))) result.lo result.hi }
 {
     if octant == 0 {
-        return sine_ends_at_degrees(degrees);
+        return sine_endpoints_at_degrees(degrees);
     }
     if octant == 1 {
-        return cosine_ends_at_degrees(OCTANT - degrees);
+        return cosine_endpoints_at_degrees(OCTANT - degrees);
     }
     if octant == 2 {
-        return cosine_ends_at_degrees(degrees);
+        return cosine_endpoints_at_degrees(degrees);
     }
-    sine_ends_at_degrees(OCTANT - degrees)
+    sine_endpoints_at_degrees(OCTANT - degrees)
 }
 
 /// From the lesser lower to the greater upper endpoint.
@@ -63,7 +63,7 @@ fn sine_into_octant_of_turn(octant: i128, degrees: u64) -> Span
     ensures near { IsPoint (unsigned_abs octant) degrees result.lo result.hi }
     ensures room { IsSmall result.lo result.hi }
     ensures begins { degrees ≡ 0 → IsAt (edge_of (unsigned_abs octant)) result.lo result.hi }
-    ensures ends { degrees ≡ OCTANT → IsAt (edge_of (suc (unsigned_abs octant))) result.lo result.hi }
+    ensures endpoints { degrees ≡ OCTANT → IsAt (edge_of (suc (unsigned_abs octant))) result.lo result.hi }
 {
     if octant >= 4 {
         return opposite(sine_into_octant_of_half_turn(octant - 4, degrees));
@@ -95,7 +95,7 @@ fn sine_at_degrees_in_octant(octant: i128, degrees: i128) -> Span
         result.lo result.hi }
     ensures begins { degrees ≡ octant *ℤ pos OCTANT → IsAt
         (edge_of (octant_of_turn octant)) result.lo result.hi }
-    ensures ends { degrees ≡ octant *ℤ pos OCTANT +ℤ pos OCTANT
+    ensures endpoints { degrees ≡ octant *ℤ pos OCTANT +ℤ pos OCTANT
         → IsAt (edge_of (suc (octant_of_turn octant))) result.lo result.hi }
 {
     sine_into_octant_of_turn(
@@ -120,7 +120,7 @@ fn sine_over_degrees_in_octant(octant: i128, lo: i128, hi: i128) -> Span
         +ℤ pos 513) }
     ensures begins { lo ≤ℤ (octant *ℤ pos OCTANT) → IsAt (edge_of (octant_of_turn octant)) result.lo
         result.hi }
-    ensures ends { (octant *ℤ pos OCTANT +ℤ pos OCTANT) ≤ℤ hi
+    ensures endpoints { (octant *ℤ pos OCTANT +ℤ pos OCTANT) ≤ℤ hi
         → IsAt (edge_of (suc (octant_of_turn octant))) result.lo result.hi }
     ensures small { (a : ℤ) → neg_ℤ a ≤ℤ lo → hi ≤ℤ a → a <ℤ pos OCTANT
         → IsAround (pos 0) a result.lo result.hi }

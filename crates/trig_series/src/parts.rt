@@ -30,7 +30,7 @@ fn most_moved(degrees: u64) -> i128
 
 /// The sine from so many degrees of an octant to as many more, in units of 2⁻⁵⁶. It rises.
 #[inline(always)]
-fn sine_ends_over_degrees(from: u64, to: u64) -> Span
+fn sine_endpoints_over_degrees(from: u64, to: u64) -> Span
     requires ordered { from ≤ to }
     requires octant { to ≤ OCTANT }
     ensures holds { (n d : ℕ) (y : Fraction) → DEPTH ≤ n → from ≤ d → d ≤ to
@@ -49,7 +49,7 @@ fn sine_ends_over_degrees(from: u64, to: u64) -> Span
 
 /// The cosine from so many degrees of an octant to as many more, in units of 2⁻⁵⁶. It falls.
 #[inline(always)]
-fn cosine_ends_over_degrees(from: u64, to: u64) -> Span
+fn cosine_endpoints_over_degrees(from: u64, to: u64) -> Span
     requires ordered { from ≤ to }
     requires octant { to ≤ OCTANT }
     ensures holds { (n d : ℕ) (y : Fraction) → DEPTH ≤ n → from ≤ d → d ≤ to
@@ -82,15 +82,15 @@ fn part_of_half(octant: i128, from: u64, to: u64) -> Span
     ensures near { IsPart (unsigned_abs octant) from to result.lo result.hi }
 {
     if octant == 0 {
-        return sine_ends_over_degrees(from, to);
+        return sine_endpoints_over_degrees(from, to);
     }
     if octant == 1 {
-        return cosine_ends_over_degrees(OCTANT - to, OCTANT - from);
+        return cosine_endpoints_over_degrees(OCTANT - to, OCTANT - from);
     }
     if octant == 2 {
-        return cosine_ends_over_degrees(from, to);
+        return cosine_endpoints_over_degrees(from, to);
     }
-    sine_ends_over_degrees(OCTANT - to, OCTANT - from)
+    sine_endpoints_over_degrees(OCTANT - to, OCTANT - from)
 }
 
 /// The sine from so many degrees into an octant of a turn to as many more.

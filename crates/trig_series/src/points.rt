@@ -58,14 +58,14 @@ fn at_octant_end() -> Span
 // Exact at 0: so a sine at a multiple of 90 degrees is exact.
 /// The sine of so many degrees of an octant, in units of 2⁻⁵⁶; exact at 0.
 #[inline(always)]
-pub(crate) fn sine_ends_at_degrees(degrees: u64) -> Span
+pub(crate) fn sine_endpoints_at_degrees(degrees: u64) -> Span
     requires octant { degrees ≤ OCTANT }
     ensures holds { (n : ℕ) (y : Fraction) → DEPTH ≤ n → y ≈ units_of_56 (pos degrees)
         → sine_series n (radians n y) ⊆ between (units_of_56 result.lo) (units_of_56 result.hi) }
     ensures near { IsNearSine degrees result.lo result.hi }
     ensures room { IsSmall result.lo result.hi }
     ensures begins { degrees ≡ 0 → IsAt (pos 0) result.lo result.hi }
-    ensures ends { degrees ≡ OCTANT → IsAt (pos 50952413380206180) result.lo result.hi }
+    ensures endpoints { degrees ≡ OCTANT → IsAt (pos 50952413380206180) result.lo result.hi }
 {
     if degrees == 0 {
         return Span { lo: 0, hi: 0 };
@@ -78,14 +78,14 @@ pub(crate) fn sine_ends_at_degrees(degrees: u64) -> Span
 
 /// The cosine of so many degrees of an octant, in units of 2⁻⁵⁶; exact at 0.
 #[inline(always)]
-pub(crate) fn cosine_ends_at_degrees(degrees: u64) -> Span
+pub(crate) fn cosine_endpoints_at_degrees(degrees: u64) -> Span
     requires octant { degrees ≤ OCTANT }
     ensures holds { (n : ℕ) (y : Fraction) → DEPTH ≤ n → y ≈ units_of_56 (pos degrees)
         → cosine_series n (radians n y) ⊆ between (units_of_56 result.lo) (units_of_56 result.hi) }
     ensures near { IsNearCosine degrees result.lo result.hi }
     ensures room { IsSmall result.lo result.hi }
     ensures begins { degrees ≡ 0 → IsAt (ONE) result.lo result.hi }
-    ensures ends { degrees ≡ OCTANT → IsAt (pos 50952413380206180) result.lo result.hi }
+    ensures endpoints { degrees ≡ OCTANT → IsAt (pos 50952413380206180) result.lo result.hi }
 {
     if degrees == 0 {
         return Span { lo: ONE, hi: ONE };

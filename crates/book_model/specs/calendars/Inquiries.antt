@@ -6,7 +6,7 @@ use Rattle.book_model.specs.declared.fact.Fact.{Fact}
 use Rattle.book_model.specs.declared.request.Fields.{Fields}
 use Rattle.book_model.specs.sky.Facts.{run_of}
 use Rattle.book_model.specs.sky.Names.{kind_number, place_number}
-use Rattle.book_model.specs.programs.Programs.{Outcome, valued, void_at, open_at, outcome}
+use Rattle.book_model.specs.programs.Programs.{Outcome, valued, void_at, undecided_test_at, outcome}
 
 -- what is asked of a table of facts, one fact at a time
 pub data Inquiry (A : Type 0) : Type 0 where
@@ -80,7 +80,7 @@ pub data Finding (A : Type 0) : Type 0 where
 abbrev pub found_at : {A : Type 0} → Fact → Outcome ℤ → (ℤ → Finding A) → Finding A
 found_at f (valued v) next = next v
 found_at f (void_at s) next = stopped f
-found_at f (open_at s) next = stopped f
+found_at f (undecided_test_at s) next = stopped f
 
 -- the finding over the runs of the facts at a depth, after these facts
 unfoldable pub finding_after : {A : Type 0} → ℕ → List (Fact × ℤ) → Inquiry A → Finding A

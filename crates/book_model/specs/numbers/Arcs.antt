@@ -69,9 +69,9 @@ begins_by None b = true
 begins_by (Some e) b = is_at_most e b
 
 -- what ends there, if anywhere, ends at or above a
-abbrev pub ends_from : Option Fraction → Fraction → Bool
-ends_from None a = true
-ends_from (Some e) a = is_at_most a e
+abbrev pub endpoints_from : Option Fraction → Fraction → Bool
+endpoints_from None a = true
+endpoints_from (Some e) a = is_at_most a e
 
 -- the lower endpoint of the part of what begins at a
 abbrev pub low_from : Option Fraction → Fraction → Fraction
@@ -85,7 +85,7 @@ high_to (Some e) b = smaller e b
 
 -- whether a .. b meets a piece
 abbrev pub meets : (a b : Fraction) → Piece → Bool
-meets a b p = begins_by p.begin b && ends_from p.end a
+meets a b p = begins_by p.begin b && endpoints_from p.end a
 
 -- the arctangents at the two endpoints of the part of a .. b in a piece
 unfoldable pub arc_of_part : ℕ → (a b : Fraction) → Piece → Interval

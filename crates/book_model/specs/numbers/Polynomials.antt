@@ -5,8 +5,8 @@ use Rattle.book_model.specs.declared.frac.Frac.{Frac}
 use Rattle.book_model.specs.declared.polynomial.Quadratic.{Quadratic}
 use Rattle.book_model.specs.declared.polynomial.Cubic.{Cubic}
 use Rattle.book_model.specs.declared.polynomial.Quartic.{Quartic}
-use Rattle.book_model.specs.declared.polynomial.Wave.{Wave}
-use Rattle.book_model.specs.declared.polynomial.QuadraticWave.{QuadraticWave}
+use Rattle.book_model.specs.declared.polynomial.PeriodicTerm.{PeriodicTerm}
+use Rattle.book_model.specs.declared.polynomial.QuadraticTerm.{QuadraticTerm}
 use Rattle.book_model.specs.sky.Correction.{no_fraction}
 use Rattle.book_model.specs.numbers.Fractions.{fraction_of, ten_millionths}
 use Rattle.book_model.specs.numbers.Expressions.{Expression, integer, constant, add, scale, power, sine}
@@ -38,21 +38,21 @@ unfoldable pub polynomial_at : List Frac → Fraction → Expression
 polynomial_at cs c = polynomial_at_to cs c (length cs)
 
 -- the phase of a periodic term and its rate times x, which are in centuries
-abbrev pub angle_of_wave : Wave → Expression → Expression
-angle_of_wave v x = add (constant (ten_millionths v.phase)) (scale (ten_millionths v.rate) x)
+abbrev pub angle_of_term : PeriodicTerm → Expression → Expression
+angle_of_term v x = add (constant (ten_millionths v.phase)) (scale (ten_millionths v.rate) x)
 
 -- the size of a periodic term times the sine of its angle
-unfoldable pub wave_of : Expression → Wave → Expression
-wave_of x v = scale (whole v.size) (sine (angle_of_wave v x))
+unfoldable pub periodic_term_of : Expression → PeriodicTerm → Expression
+periodic_term_of x v = scale (whole v.size) (sine (angle_of_term v x))
 
 -- the size of a periodic term times the sine of its angle, which is quadratic
-unfoldable pub quadratic_wave_of : QuadraticWave → Expression → Expression
-quadratic_wave_of v x = scale (fraction_of v.size) (sine (quadratic_of v.angle x))
+unfoldable pub quadratic_term_of : QuadraticTerm → Expression → Expression
+quadratic_term_of v x = scale (fraction_of v.size) (sine (quadratic_of v.angle x))
 
 -- what stands for a periodic term past the last
-abbrev pub no_wave : Wave
-no_wave = record { size = pos 0; phase = pos 0; rate = pos 0 }
+abbrev pub no_periodic_term : PeriodicTerm
+no_periodic_term = record { size = pos 0; phase = pos 0; rate = pos 0 }
 
 -- the sum of the periodic terms
-abbrev pub waves_of : List Wave → Expression → Expression
-waves_of vs x = terms_of (wave_of x) no_wave vs
+abbrev pub periodic_terms_of : List PeriodicTerm → Expression → Expression
+periodic_terms_of vs x = terms_of (periodic_term_of x) no_periodic_term vs

@@ -20,25 +20,25 @@ pub record AreNoBounds (lo hi : ℤ) : Type 0 where
   pub greatest : hi ≡ pos (2 ^ 127 - 1)
 
 -- two numbers in units of 2^-56 are the bounds of an interval
-pub data AreEnds : ℤ → ℤ → Interval → Type 0 where
-  bounds : {lo hi : ℤ} {a b : Fraction} → units_of_56 lo ≈ a → units_of_56 hi ≈ b → AreEnds lo hi (between a b)
-  no_bounds : {lo hi : ℤ} → AreNoBounds lo hi → AreEnds lo hi everything
+pub data AreEndpoints : ℤ → ℤ → Interval → Type 0 where
+  bounds : {lo hi : ℤ} {a b : Fraction} → units_of_56 lo ≈ a → units_of_56 hi ≈ b → AreEndpoints lo hi (between a b)
+  no_bounds : {lo hi : ℤ} → AreNoBounds lo hi → AreEndpoints lo hi everything
 
 -- A cell test is undecided at the bounds of an enclosure: the enclosure lies in no one cell, and these are its bounds; or
 -- its cell is a number outside 64 bits.
-pub data IsOpenCell (g : Grid) (i : Interval) (lo hi : ℤ) : Type 0 where
-  between_cells : cell_at g i ≡ None → AreEnds lo hi i → IsOpenCell g i lo hi
-  too_far : (q : ℤ) → cell_at g i ≡ Some q → ¬ FitsSigned w64 q → AreNoBounds lo hi → IsOpenCell g i lo hi
+pub data IsUndecidedCell (g : Grid) (i : Interval) (lo hi : ℤ) : Type 0 where
+  between_cells : cell_at g i ≡ None → AreEndpoints lo hi i → IsUndecidedCell g i lo hi
+  too_far : (q : ℤ) → cell_at g i ≡ Some q → ¬ FitsSigned w64 q → AreNoBounds lo hi → IsUndecidedCell g i lo hi
 
 -- A comparison is undecided at the bounds of two enclosures: neither answer is decided, and these are the bounds of their hull.
-pub record IsOpenComparison (i j : Interval) (lo hi : ℤ) : Type 0 where
+pub record IsUndecidedComparison (i j : Interval) (lo hi : ℤ) : Type 0 where
   pub open_there : compare_at i j ≡ None
-  pub ends : AreEnds lo hi (hull i j)
+  pub endpoints : AreEndpoints lo hi (hull i j)
 
 -- a test is undecided for enclosures that hold its sides
 pub data IsOpen : Sides → ℤ → ℤ → Type 0 where
-  open_cell : {g : Grid} {i : Interval} {lo hi : ℤ} (j : Interval) → i ⊆ j → IsOpenCell g j lo hi → IsOpen (one_side g i) lo hi
-  open_comparison : {i j : Interval} {lo hi : ℤ} (k l : Interval) → i ⊆ k → j ⊆ l → IsOpenComparison k l lo hi → IsOpen (two_sides i j) lo hi
+  open_cell : {g : Grid} {i : Interval} {lo hi : ℤ} (j : Interval) → i ⊆ j → IsUndecidedCell g j lo hi → IsOpen (one_side g i) lo hi
+  undecided_comparison : {i j : Interval} {lo hi : ℤ} (k l : Interval) → i ⊆ k → j ⊆ l → IsUndecidedComparison k l lo hi → IsOpen (two_sides i j) lo hi
 
 -- the answers of tests are numbers that the code has too
 abbrev pub Exact : {A : Type 0} → A → A → Type 0

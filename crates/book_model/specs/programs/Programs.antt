@@ -94,12 +94,12 @@ run w (compare s x y next) = after_compare s (value w x) (value w y) (compare_at
 pub data Outcome (A : Type 0) : Type 0 where
   valued : A → Outcome A
   void_at : Site → Outcome A
-  open_at : Site → Outcome A
+  undecided_test_at : Site → Outcome A
 
 unfoldable pub outcome : {A : Type 0} → Run A → Outcome A
 outcome (answered a) = valued a
 outcome (voided s) = void_at s
-outcome (undecided s i) = open_at s
+outcome (undecided s i) = undecided_test_at s
 outcome (decided s i r rest) = outcome rest
 
 -- the test of a number, from 1, that a run makes: its site and its sides

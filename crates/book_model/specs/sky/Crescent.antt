@@ -91,13 +91,13 @@ visible_of p d = bind (evening_of p d) (meets_at_of p)
 unfoldable pub start_by : ℤ → Bool → ℤ
 start_by m seen = if seen then m else m -ℤ pos 30
 
-unfoldable pub sight_start_of : Location → (d m : ℤ) → Program ℤ
-sight_start_of p d m = if int_le (d -ℤ m) (pos 3) then (bind (visible_of p d) λ seen. answer (start_by m seen)) else answer m
+unfoldable pub visibility_start_of : Location → (d m : ℤ) → Program ℤ
+visibility_start_of p d m = if int_le (d -ℤ m) (pos 3) then (bind (visible_of p d) λ seen. answer (start_by m seen)) else answer m
 
 -- the first day on whose evening before the crescent is seen, from where the day of the last new moon tells
-unfoldable pub sight_after_of : Location → (d m : ℤ) → Program ℤ
-sight_after_of p d m = bind (sight_start_of p d m) (first_day_from (visible_of p))
+unfoldable pub visibility_after_of : Location → (d m : ℤ) → Program ℤ
+visibility_after_of p d m = bind (visibility_start_of p d m) (first_day_from (visible_of p))
 
 -- the last day before a day, or the day itself, on whose evening before the crescent was first seen
 unfoldable pub phasis_of : Location → ℤ → Program ℤ
-phasis_of p d = bind (phase_day_of (pos 0) d) (sight_after_of p d)
+phasis_of p d = bind (phase_day_of (pos 0) d) (visibility_after_of p d)

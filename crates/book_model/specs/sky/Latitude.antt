@@ -2,12 +2,12 @@
 -- Reingold and Dershowitz, Calendrical Calculations, chapter 14; Meeus, Astronomical Algorithms, chapter 47.
 use Rattle.std.specs.Prelude.{pos}
 use Rattle.exact_math.specs.Fraction.{whole}
-use Rattle.book_model.specs.declared.moon_tables.TheConstants.{FLATTENING_ALONE, FLATTENING_LESS_ANOMALY, FLATTENING_WITH_ANOMALY, LATITUDE_TERMS, LATITUDE_WAVE, MILLIONTH, MOON_LONGITUDE, VENUS_IN_LATITUDE, VENUS_WAVE}
+use Rattle.book_model.specs.declared.moon_tables.TheConstants.{FLATTENING_ALONE, FLATTENING_LESS_ANOMALY, FLATTENING_WITH_ANOMALY, LATITUDE_TERMS, LATITUDE_TERM, MILLIONTH, MOON_LONGITUDE, VENUS_IN_LATITUDE, VENUS_TERM}
 use Rattle.book_model.specs.declared.moon_terms.LatitudeTerm.{LatitudeTerm}
 use Rattle.book_model.specs.numbers.Expressions.{Expression, add, subtract, scale, sine}
 use Rattle.book_model.specs.numbers.Fractions.{fraction_of}
 use Rattle.book_model.specs.sky.Moon.{LunarAngles, lunar_angles_of, lunar_term_of}
-use Rattle.book_model.specs.numbers.Polynomials.{quartic_of, angle_of_wave, wave_of}
+use Rattle.book_model.specs.numbers.Polynomials.{quartic_of, angle_of_term, periodic_term_of}
 use Rattle.book_model.specs.programs.Programs.{Program, answer, bind}
 use Rattle.book_model.specs.numbers.Terms.{terms_of}
 use Rattle.book_model.specs.sky.Time.{centuries_of}
@@ -37,8 +37,8 @@ flattening_by l m =
 -- the latitude in millionths of a degree
 unfoldable pub millionths_of : LunarAngles → Expression → Expression
 millionths_of a c =
-    add (add (add (latitude_terms_of a) (venus_by (angle_of_wave VENUS_WAVE c) a.latitude_argument))
-    (flattening_by (quartic_of MOON_LONGITUDE c) a.moon_anomaly)) (wave_of c LATITUDE_WAVE)
+    add (add (add (latitude_terms_of a) (venus_by (angle_of_term VENUS_TERM c) a.latitude_argument))
+    (flattening_by (quartic_of MOON_LONGITUDE c) a.moon_anomaly)) (periodic_term_of c LATITUDE_TERM)
 
 -- the latitude at a time
 unfoldable pub latitude_at_of : Expression → Expression

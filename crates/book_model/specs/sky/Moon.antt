@@ -2,12 +2,12 @@
 -- Reingold and Dershowitz, Calendrical Calculations, chapter 14; Meeus, Astronomical Algorithms, chapter 47.
 use Rattle.std.specs.Prelude.{ℤ, pos, unsigned_abs}
 use Rattle.exact_math.specs.Fraction.{whole}
-use Rattle.book_model.specs.declared.moon_tables.TheConstants.{ECCENTRICITY_FACTOR, ELONGATION, FLATTENING, JUPITER_WAVE, LATITUDE_ARGUMENT, MILLIONTH, MOON_ANOMALY, MOON_LONGITUDE, MOON_TERMS, SUN_ANOMALY, VENUS_WAVE}
+use Rattle.book_model.specs.declared.moon_tables.TheConstants.{ECCENTRICITY_FACTOR, ELONGATION, FLATTENING, JUPITER_TERM, LATITUDE_ARGUMENT, MILLIONTH, MOON_ANOMALY, MOON_LONGITUDE, MOON_TERMS, SUN_ANOMALY, VENUS_TERM}
 use Rattle.book_model.specs.declared.site.Site.TheVariants.{MoonWrap}
 use Rattle.book_model.specs.declared.moon_terms.MoonTerm.{MoonTerm}
 use Rattle.book_model.specs.numbers.Expressions.{Expression, add, subtract, scale, sine, remainder}
 use Rattle.book_model.specs.numbers.Fractions.{fraction_of}
-use Rattle.book_model.specs.numbers.Polynomials.{quadratic_of, cubic_of, quartic_of, wave_of}
+use Rattle.book_model.specs.numbers.Polynomials.{quadratic_of, cubic_of, quartic_of, periodic_term_of}
 use Rattle.book_model.specs.programs.Programs.{Program, answer, cell, bind, multiples}
 use Rattle.book_model.specs.sky.Sun.{nutation_of}
 use Rattle.book_model.specs.numbers.Terms.{terms_of, times_power}
@@ -59,7 +59,7 @@ flattening_of c = scale (fraction_of FLATTENING) (sine (subtract (quartic_of MOO
 
 -- what the moon is ahead of its mean longitude, in millionths of a degree
 unfoldable pub inequalities_of : Expression → Expression
-inequalities_of c = add (add (add (longitude_terms_of c) (wave_of c VENUS_WAVE)) (wave_of c JUPITER_WAVE)) (flattening_of c)
+inequalities_of c = add (add (add (longitude_terms_of c) (periodic_term_of c VENUS_TERM)) (periodic_term_of c JUPITER_TERM)) (flattening_of c)
 
 -- the moon's longitude, not reduced
 unfoldable pub moon_longitude_of : Expression → Expression

@@ -3,13 +3,13 @@
 use Rattle.std.specs.Prelude.{ℤ, pos, ◌+ℤ◌, ◌-ℤ◌, ◌*ℤ◌}
 use Rattle.exact_math.specs.Fraction.{Fraction, whole}
 use Rattle.book_model.specs.declared.moon_tables.TheConstants.{ECCENTRICITY_FACTOR}
-use Rattle.book_model.specs.declared.new_moon_tables.TheConstants.{MEAN_NEW_MOON, NEW_MOON_ANOMALY, NEW_MOON_LATITUDE_ARGUMENT, NEW_MOON_NODE, NEW_MOON_OF_2000, NEW_MOON_SUN_ANOMALY, NEW_MOON_TERMS, NEW_MOON_WAVE, NODE_TERM, PLANET_TERMS}
+use Rattle.book_model.specs.declared.new_moon_tables.TheConstants.{MEAN_NEW_MOON, NEW_MOON_ANOMALY, NEW_MOON_LATITUDE_ARGUMENT, NEW_MOON_NODE, NEW_MOON_OF_2000, NEW_MOON_SUN_ANOMALY, NEW_MOON_TERMS, NEW_MOON_TERM, NODE_TERM, PLANET_TERMS}
 use Rattle.book_model.specs.declared.moon_terms.NewMoonTerm.{NewMoonTerm}
 use Rattle.book_model.specs.declared.moon_terms.PlanetTerm.{PlanetTerm}
 use Rattle.book_model.specs.declared.time_tables.TheConstants.{NOON_2000}
 use Rattle.book_model.specs.numbers.Expressions.{Expression, constant, add, scale, sine}
 use Rattle.book_model.specs.numbers.Fractions.{fraction_of}
-use Rattle.book_model.specs.numbers.Polynomials.{polynomial_at, quadratic_of, quadratic_wave_of}
+use Rattle.book_model.specs.numbers.Polynomials.{polynomial_at, quadratic_of, quadratic_term_of}
 use Rattle.book_model.specs.programs.Programs.{Program}
 use Rattle.book_model.specs.numbers.Terms.{terms_of, times_power}
 use Rattle.book_model.specs.sky.Time.{from_dynamical_of}
@@ -60,8 +60,8 @@ unfoldable pub new_moon_terms_of : Fraction → Expression
 new_moon_terms_of c = terms_of (new_moon_term_of (new_moon_angles_of c)) no_new_moon_term NEW_MOON_TERMS
 
 -- what Venus adds
-unfoldable pub venus_wave_of : Fraction → Expression
-venus_wave_of c = quadratic_wave_of NEW_MOON_WAVE (constant c)
+unfoldable pub venus_term_of : Fraction → Expression
+venus_term_of c = quadratic_term_of NEW_MOON_TERM (constant c)
 
 -- i + j k, in millionths of a degree
 abbrev pub planet_angle : ℤ → PlanetTerm → ℤ
@@ -90,7 +90,7 @@ node_term_of c = scale (fraction_of NODE_TERM) (sine (polynomial_at NEW_MOON_NOD
 unfoldable pub dynamical_new_moon_of : ℤ → Expression
 dynamical_new_moon_of k =
     add (add (add (add (mean_new_moon_of (centuries_of_months k)) (node_term_of (centuries_of_months k))) (new_moon_terms_of (centuries_of_months k)))
-    (venus_wave_of (centuries_of_months k))) (planet_terms_of k)
+    (venus_term_of (centuries_of_months k))) (planet_terms_of k)
 
 -- the new moon of a number, in universal time
 unfoldable pub new_moon_of : ℤ → Program Expression

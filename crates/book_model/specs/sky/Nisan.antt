@@ -22,12 +22,12 @@ unfoldable pub sought_start_of : Location → (s m : ℤ) → Program ℤ
 sought_start_of p s m = if int_le (pos 4) (s -ℤ m) then answer (m +ℤ pos 29) else (bind (visible_of p (s -ℤ pos 1)) λ seen. answer (sought_from s m seen))
 
 -- the first day on whose evening before the crescent is seen, from where the day of the last new moon tells
-unfoldable pub sight_by_of : Location → (s m : ℤ) → Program ℤ
-sight_by_of p s m = bind (sought_start_of p s m) (first_day_from (visible_of p))
+unfoldable pub visibility_by_of : Location → (s m : ℤ) → Program ℤ
+visibility_by_of p s m = bind (sought_start_of p s m) (first_day_from (visible_of p))
 
 -- the first day from a day on with whose evening before a month begins
-unfoldable pub sight_from_of : Location → ℤ → Program ℤ
-sight_from_of p s = bind (phase_day_of (pos 0) s) (sight_by_of p s)
+unfoldable pub visibility_from_of : Location → ℤ → Program ℤ
+visibility_from_of p s = bind (phase_day_of (pos 0) s) (visibility_by_of p s)
 
 -- ---- the first day of Nisan
 -- whether a moment comes before sunset on a day
@@ -43,7 +43,7 @@ unfoldable pub nisan_by_of : Location → Expression → Program ℤ
 nisan_by_of p x =
     bind (cell DayFloor integers x answer) λ f.
     bind (is_before_sunset_of p x f) λ before.
-    sight_from_of p (nisan_start f before)
+    visibility_from_of p (nisan_start f before)
 
 -- the first day of the month of Nisan about the spring equinox that is next from a day on
 unfoldable pub nisan_of : Location → ℤ → Program ℤ

@@ -73,7 +73,7 @@ fn lines_of_an_almanac_and_of_the_east(rt: HostRuntime) {
 }
 
 /// The first of some requests, the last, and how many there are.
-fn ends(requests: &[Request]) -> (Option<&Request>, Option<&Request>, usize) {
+fn endpoints(requests: &[Request]) -> (Option<&Request>, Option<&Request>, usize) {
     (requests.first(), requests.last(), requests.len())
 }
 
@@ -81,10 +81,10 @@ fn ends(requests: &[Request]) -> (Option<&Request>, Option<&Request>, usize) {
 fn requests_stand_in_their_order(rt: HostRuntime) -> Result<(), Fail> {
     let almanac = almanac_requests(rt.alloc(), 2024)?;
     let (first, last) = (almanac_line(2024, 1), almanac_line(2024, 104));
-    assert!(rt; ends(&almanac) == (Some(&first), Some(&last), 104));
+    assert!(rt; endpoints(&almanac) == (Some(&first), Some(&last), 104));
     let east = east_requests(rt.alloc(), 2007)?;
     let (first, last) = (east_line(2007, 1), east_line(2007, 52));
-    assert!(rt; ends(&east) == (Some(&first), Some(&last), 52));
+    assert!(rt; endpoints(&east) == (Some(&first), Some(&last), 52));
     let sample = sample_requests(rt.alloc(), 2, 1)?;
     let (first, state) = sample_line(1, 0);
     let (second, _) = sample_line(state, 1);

@@ -1,6 +1,6 @@
 //! Arcs: values from outside, and how narrow the answers are.
 use super::measures::{UNIT, is_near, is_within};
-use super::operations::{EVERY, Ends, fractions, range};
+use super::operations::{EVERY, Endpoints, fractions, range};
 use arc_series::{arccos_deg, arcsin_deg, arctan_deg, arctan2_deg};
 use encl_core::{Coarse, Enclosure};
 use fix_fine::Fine;
@@ -133,7 +133,7 @@ const DIRECTIONS: [(i64, i64, i128); 11] = [
 ];
 
 /// Directions that may be any.
-const ANY: [(Ends, Ends); 3] = [((0, 1), (1, 1)), (EVERY, (1, 1)), ((1, 1), EVERY)];
+const ANY: [(Endpoints, Endpoints); 3] = [((0, 1), (1, 1)), (EVERY, (1, 1)), ((1, 1), EVERY)];
 
 #[test]
 fn an_angle_is_that_of_the_direction(rt: HostRuntime) {

@@ -1,5 +1,5 @@
 //! Tests of enclosures of each kind: what is decided, and the endpoints that undecided tests name.
-use super::operations::{EVERY, Ends, Fractions, fractions, range};
+use super::operations::{EVERY, Endpoints, Fractions, fractions, range};
 use super::rough::Rough;
 use book_model::{Fail as FormulaFail, Site, Undecided};
 use encl_core::{Coarse, Enclosure, Trail, floor_step, less_step, wrap_step};
@@ -17,7 +17,7 @@ fn stepped<T: Copy + Drop>(answer: Result<T, Undecided>) -> Result<T, FormulaFai
 
 /// Ranges, and whether the first is below the second.
 #[rattlefmt::skip]
-const COMPARISONS: [(Ends, Ends, Result<bool, Undecided>); 4] = [
+const COMPARISONS: [(Endpoints, Endpoints, Result<bool, Undecided>); 4] = [
     ((1, 1), (2, 2), Ok(true)),
     ((2, 2), (0, 2), Ok(false)),
     ((1, 3), (2, 2), Err(Undecided { turn: 3, site: Site::Search, lo: 72_057_594_037_927_936, hi: 216_172_782_113_783_808 })),
@@ -25,19 +25,27 @@ const COMPARISONS: [(Ends, Ends, Result<bool, Undecided>); 4] = [
 ];
 
 /// Whether a range is below another, as a test.
-fn compared<E: Enclosure>(x: Ends, y: Ends, trail: &mut Trail) -> Result<bool, Undecided> {
+fn compared<E: Enclosure>(
+    x: Endpoints,
+    y: Endpoints,
+    trail: &mut Trail,
+) -> Result<bool, Undecided> {
     range::<E>(x).less(range(y), Site::Search, trail)
 }
 
 /// The same as a step of a formula.
-fn step_compared<E: Enclosure>(x: Ends, y: Ends, trail: &mut Trail) -> Result<bool, FormulaFail> {
+fn step_compared<E: Enclosure>(
+    x: Endpoints,
+    y: Endpoints,
+    trail: &mut Trail,
+) -> Result<bool, FormulaFail> {
     less_step(range::<E>(x), range(y), Site::Search, trail)
 }
 
 /// Asserts comparisons, which a trail counts.
 fn comparisons_are_told<E: Enclosure>(
     rt: &impl Abort,
-    rows: &[(Ends, Ends, Result<bool, Undecided>)],
+    rows: &[(Endpoints, Endpoints, Result<bool, Undecided>)],
 ) {
     let mut trail = Trail::new();
     for (x, y, answer) in rows {
@@ -57,7 +65,7 @@ fn a_comparison_is_undecided_where_the_endpoints_leave_it_so(rt: HostRuntime) {
 /// Asserts comparisons as steps of a formula.
 fn comparing_steps_are_told<E: Enclosure>(
     rt: &impl Abort,
-    rows: &[(Ends, Ends, Result<bool, Undecided>)],
+    rows: &[(Endpoints, Endpoints, Result<bool, Undecided>)],
 ) {
     let mut trail = Trail::new();
     for (x, y, answer) in rows {
@@ -140,7 +148,7 @@ const WRAPS: [(Fractions, u32, Result<Fractions, Undecided>); 10] = [
 /// What is to be left of a wrap.
 fn left<E: Enclosure>(answer: Result<Fractions, Undecided>) -> Result<E, FormulaFail> {
     match answer {
-        Ok(ends) => Ok(fractions(ends)),
+        Ok(endpoints) => Ok(fractions(endpoints)),
         Err(at) => Err(FormulaFail::Undecided(at)),
     }
 }

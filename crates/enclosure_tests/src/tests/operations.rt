@@ -52,17 +52,17 @@ fn made<E: Enclosure>(operation: Operation, x: E, y: E) -> Option<E> {
 }
 
 /// The endpoints of a range of whole numbers; of every number, where the first is above the second.
-pub type Ends = (i64, i64);
+pub type Endpoints = (i64, i64);
 
 /// Every number.
-pub const EVERY: Ends = (1, 0);
+pub const EVERY: Endpoints = (1, 0);
 
 /// What stands for the second enclosure of an operation of one.
-const NONE: Ends = (0, 0);
+const NONE: Endpoints = (0, 0);
 
 /// From the one whole number to the other.
-pub fn range<E: Enclosure>(ends: Ends) -> E {
-    let (low, high) = ends;
+pub fn range<E: Enclosure>(endpoints: Endpoints) -> E {
+    let (low, high) = endpoints;
     if high < low {
         E::whole()
     } else {
@@ -72,7 +72,7 @@ pub fn range<E: Enclosure>(ends: Ends) -> E {
 
 /// What operations make of ranges, over enclosures of each kind.
 #[rattlefmt::skip]
-const RANGES: [(Operation, Ends, Ends, Ends); 40] = [
+const RANGES: [(Operation, Endpoints, Endpoints, Endpoints); 40] = [
     // Whole numbers are exact.
     (Operation::Add, (3, 3), (4, 4), (7, 7)),
     (Operation::Sub, (3, 3), (-4, -4), (7, 7)),
@@ -124,7 +124,7 @@ const RANGES: [(Operation, Ends, Ends, Ends); 40] = [
 
 /// What doesn't fit in `Coarse`.
 #[rattlefmt::skip]
-const TOO_LARGE_FOR_COARSE: [(Operation, Ends, Ends, Ends); 3] = [
+const TOO_LARGE_FOR_COARSE: [(Operation, Endpoints, Endpoints, Endpoints); 3] = [
     (Operation::Same, (134_217_728, 134_217_728), NONE, EVERY),
     (Operation::Mul, (100_000_000, 100_000_000), (2, 2), EVERY),
     (Operation::Square, (100_000, 100_000), NONE, EVERY),
@@ -132,7 +132,7 @@ const TOO_LARGE_FOR_COARSE: [(Operation, Ends, Ends, Ends); 3] = [
 
 /// What doesn't fit in `Fine`.
 #[rattlefmt::skip]
-const TOO_LARGE_FOR_FINE: [(Operation, Ends, Ends, Ends); 5] = [
+const TOO_LARGE_FOR_FINE: [(Operation, Endpoints, Endpoints, Endpoints); 5] = [
     (Operation::Mul, (i64::MAX, i64::MAX), (2, 2), EVERY),
     (Operation::Mul, (100_000_000, 100_000_000), (-2, 1), EVERY),
     (Operation::Square, (1_000_000_000, 1_000_000_000), NONE, EVERY),
@@ -143,7 +143,7 @@ const TOO_LARGE_FOR_FINE: [(Operation, Ends, Ends, Ends); 5] = [
 /// Asserts what operations make of ranges.
 fn ranges_are_made<E: Enclosure + Debug + PartialEq>(
     rt: &impl Abort,
-    rows: &[(Operation, Ends, Ends, Ends)],
+    rows: &[(Operation, Endpoints, Endpoints, Endpoints)],
 ) {
     for (operation, x, y, answer) in rows {
         let found = made(*operation, range::<E>(*x), range(*y));
@@ -171,8 +171,8 @@ pub type Fractions = (i128, i128, u64);
 const ZERO: Fractions = (0, 0, 1);
 
 /// From the one fraction to the other; every number, where the denominator is 0.
-pub fn fractions<E: Enclosure>(ends: Fractions) -> E {
-    let (low, high, den) = ends;
+pub fn fractions<E: Enclosure>(endpoints: Fractions) -> E {
+    let (low, high, den) = endpoints;
     match (Frac::new(low, den), Frac::new(high, den)) {
         (Some(low), Some(high)) => E::from_frac(low).hull(E::from_frac(high)),
         _ => E::whole(),
@@ -271,7 +271,7 @@ fn fractions_are_rounded_outwards(rt: HostRuntime) {
 }
 
 /// Ranges and their endpoints, in units of 2⁻⁵⁶, over enclosures of each kind; the lower above the upper of every number.
-const SPANS: [(Ends, i128, i128); 5] = [
+const SPANS: [(Endpoints, i128, i128); 5] = [
     ((-1, 2), -72_057_594_037_927_936, 144_115_188_075_855_872),
     ((2, 2), 2 << 56, 2 << 56),
     ((3, 3), 3 << 56, 3 << 56),
@@ -286,16 +286,16 @@ const SPANS: [(Ends, i128, i128); 5] = [
 /// Asserts that ranges have their endpoints, and are the ranges of these.
 fn spans_are_endpoints<E: Enclosure + Debug + PartialEq>(
     rt: &impl Abort,
-    rows: &[(Ends, i128, i128)],
+    rows: &[(Endpoints, i128, i128)],
 ) {
-    for (ends, lo, hi) in rows {
-        let x = range::<E>(*ends);
-        assert_eq!(rt; x.span(), span(*lo, *hi), "{ends:?}");
+    for (endpoints, lo, hi) in rows {
+        let x = range::<E>(*endpoints);
+        assert_eq!(rt; x.span(), span(*lo, *hi), "{endpoints:?}");
         let back = match x.span() {
             Some(span) => E::from_span(span),
             None => E::whole(),
         };
-        assert_eq!(rt; back, x, "{ends:?}");
+        assert_eq!(rt; back, x, "{endpoints:?}");
     }
 }
 

@@ -1,5 +1,5 @@
 //! That a quotient of any size is the same, whichever way it takes.
-use rounded_quotients::{ceil_div, floor_div};
+use int_division::{ceil_div, floor_div};
 
 /// Numbers, divisors, and the quotients rounded down and up: on both sides of 64 bits, and of wide numbers.
 #[rattlefmt::skip]

@@ -1,6 +1,6 @@
 //! Sines, cosines and tangents: values from outside, and how narrow the answers are.
 use super::measures::is_near;
-use super::operations::{EVERY, Ends, fractions, range};
+use super::operations::{EVERY, Endpoints, fractions, range};
 use encl_core::{Coarse, Enclosure, Span};
 use std::process::Abort;
 use trig_series::{cos_deg, pi, sin_deg, tan_deg};
@@ -85,7 +85,7 @@ fn values_are_those_of_a_table(rt: HostRuntime) {
 
 /// Functions, ranges of degrees, and the ranges of the values there.
 #[rattlefmt::skip]
-const RANGES: [(Function, Ends, Ends); 21] = [
+const RANGES: [(Function, Endpoints, Endpoints); 21] = [
     // A range takes in what it turns at.
     (Function::Sine, (0, 90), (0, 1)),
     (Function::Sine, (0, 180), (0, 1)),

@@ -1,7 +1,7 @@
 //! Sums of periodic terms in whole numbers: the sines at the edges of octants, and how narrow a sum is, where its days are known and
 //! where they aren't.
 use encl_core::Span;
-use periodic_terms::{TurningWave, sine_at_turn, sum_over};
+use periodic_terms::{TurningTerm, sine_at_turn, sum_over};
 
 /// One, in parts of 2⁻⁵⁶; also a day.
 const ONE: i128 = 72_057_594_037_927_936;
@@ -32,12 +32,12 @@ fn sines_at_the_edges_of_octants_are_within_three_parts(rt: HostRuntime) {
 /// Three times the sine of 90 degrees, and the sine of an angle that begins at 0 and moves by 45 degrees a day.
 fn sum_of_two(days: Span) -> Span {
     let rows = [
-        TurningWave {
+        TurningTerm {
             size: 3,
             phase: 1 << 62,
             rate: 0,
         },
-        TurningWave {
+        TurningTerm {
             size: 1,
             phase: 0,
             rate: 1 << 77,

@@ -24,7 +24,7 @@ impl<E: Enclosure> Angular<E> for Identity {
         Err(FormulaFail::Void(Site::Bisect))
     }
 
-    fn over(&self, _stretch: E, _trail: &Trail) -> Option<Self> {
+    fn over(&self, _interval_of_days: E, _trail: &Trail) -> Option<Self> {
         None
     }
 

@@ -73,7 +73,7 @@ const EVENINGS: [(i64, bool, u32); 9] = [
 ];
 
 /// Days (R.D.), the day with whose evening the crescent was first seen at Cairo, and how many tests that makes.
-const SIGHTS: [(i64, i64, u32); 7] = [
+const VISIBILITIES: [(i64, i64, u32); 7] = [
     (657_802, 657_778, 386),
     (680_000, 679_985, 386),
     (693_961, 693_953, 354),
@@ -100,11 +100,11 @@ fn is_first_visibility(day: i64, first: i64, tests: u32) -> bool {
 }
 
 #[test]
-fn sights_are_those_of_the_reference(rt: HostRuntime) {
+fn visibilities_are_those_of_the_reference(rt: HostRuntime) {
     for (day, seen, tests) in EVENINGS {
         assert!(rt; is_seen(day, seen, tests), "the evening before {day}");
     }
-    for (day, first, tests) in SIGHTS {
+    for (day, first, tests) in VISIBILITIES {
         assert!(rt;
             is_first_visibility(day, first, tests),
             "the first visibility before {day}"

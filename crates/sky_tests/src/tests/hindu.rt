@@ -1,18 +1,18 @@
 //! The facts of the Hindu calendars: values of an independent implementation of the formulas, with the tests that they make.
 use book_model::Fail as FormulaFail;
 use encl_core::{Coarse, Trail};
-use hindu_facts::{
+use hindu_sky::{
     calendar_year, sankranti, sign_after, sign_at_sunset, sign_before, solar_year, tithi,
 };
-use moon_core::PhaseCourse;
-use sun_core::SunCourse;
+use moon_core::PhaseLinearModel;
+use sun_core::SunLinearModel;
 
 /// The values of a day (R.D.), in the order of the facts.
 fn values(day: i64, trail: &mut Trail) -> Result<[i64; 7], FormulaFail> {
     // Of other days no value is asked.
     let day = day.clamp(620_729, 784_906);
-    let phases = PhaseCourse::<Coarse>::usual();
-    let model = SunCourse::<Coarse>::always();
+    let phases = PhaseLinearModel::<Coarse>::usual();
+    let model = SunLinearModel::<Coarse>::always();
     Ok([
         sign_at_sunset::<Coarse>(&model, day, trail)?,
         solar_year::<Coarse>(day, trail)?,

@@ -14,8 +14,8 @@ pub fn fraction<E: Enclosure>(num: i128, den: u64) -> E {
 }
 
 /// What lies between two whole numbers; every number, where the first is above the second.
-pub fn from_to(ends: (i64, i64)) -> Coarse {
-    let (low, high) = ends;
+pub fn from_to(endpoints: (i64, i64)) -> Coarse {
+    let (low, high) = endpoints;
     if high < low {
         Coarse::whole()
     } else {

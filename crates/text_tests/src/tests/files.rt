@@ -1,6 +1,6 @@
 //! Files of the grammar and files outside it, with what an independent program answers for them; the forms of lines,
 //! read and written again.
-use cert_read::{LONGEST_FILE, ReadFail, is_spaced, read_file};
+use cert_parser::{LONGEST_FILE, ReadFail, is_spaced, read_file};
 use std::alloc::{AllocError, Global};
 use std::process::Abort;
 use std::test::Fail;
@@ -62,7 +62,7 @@ static TEXTS: [(Option<u8>, &[&str]); 19] = [
     (Some(7), rules::PLACES),
     (Some(4), rules::FACTS),
     (Some(5), rules::LISTS),
-    (Some(6), rules::ENDS),
+    (Some(6), rules::ENDPOINTS),
 ];
 
 /// The last line of a text below a header breaks the rule, or no line breaks one.

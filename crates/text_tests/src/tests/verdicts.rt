@@ -8,7 +8,7 @@ use byte_streams::Gathered;
 use cert_check::{
     Reason, Verdict, check_facts, check_line, checkable, completeness, write_counts, write_verdict,
 };
-use cert_read::{CertFile, LONGEST_FILE, read_file};
+use cert_parser::{CertFile, LONGEST_FILE, read_file};
 use std::alloc::Global;
 use std::process::Abort;
 use std::test::Fail;

@@ -1,5 +1,5 @@
 //! Arguments at spaces, and what they tell.
-use command_words::{Command, NoCommand, Order, order_of};
+use command_line::{Command, NoCommand, Order, order_of};
 use std::alloc::Global;
 use std::process::Abort;
 use std::test::Fail;

@@ -1,7 +1,7 @@
 use Rattle.std.proofs.Common.{arith, refl}
 use Rattle.byte_streams.proofs.Flow.{at_any_err}
 use Rattle.answered_lines.proofs.AnswerLemmas.{none_answered}
-use Rattle.answered_lines.proofs.PieceLemmas.{byte_on, front_on, byte_cut, whole_piece, whole_front}
+use Rattle.answered_lines.proofs.PieceLemmas.{byte_on, prefix_on, byte_cut, whole_piece, whole_prefix}
 use Rattle.answered_lines.proofs.lines.answer_piece.Goals as goal
 
 pub loop-byte-init : goal.loop-byte-init
@@ -11,7 +11,7 @@ pub loop-byte-preserved : goal.loop-byte-preserved
 loop-byte-preserved g c = record {
   answered = byte_on _ _ _ c.args.begun.now _ c.args.piece.now c.loop-byte.byte-index _ 0 c.loop-byte-test.true refl c.loop-byte.invariant.begun
       c.loop-byte.invariant.answered c.in_ok-answer_byte.ensures.ok;
-  begun = front_on c.args.begun.now _ _ c.args.piece.now c.loop-byte.byte-index _ 0 c.loop-byte-test.true refl c.loop-byte.invariant.begun
+  begun = prefix_on c.args.begun.now _ _ c.args.piece.now c.loop-byte.byte-index _ 0 c.loop-byte-test.true refl c.loop-byte.invariant.begun
       c.in_ok-answer_byte.ensures.begun;
   later = omega (arith, c.loop-byte.invariant.later, c.in_ok-answer_byte.ensures.later);
 }
@@ -25,4 +25,4 @@ pub returns-clause-ok : goal.returns-clause-ok
 returns-clause-ok g c = whole_piece _ _ c.args.begun.now c.loop-byte.begun c.args.piece.now c.loop-byte.byte-index (omega arith) c.loop-byte.invariant.answered
 
 pub returns-clause-begun : goal.returns-clause-begun
-returns-clause-begun g c = whole_front c.args.begun.now _ c.args.piece.now c.loop-byte.byte-index (omega arith) c.loop-byte.invariant.begun
+returns-clause-begun g c = whole_prefix c.args.begun.now _ c.args.piece.now c.loop-byte.byte-index (omega arith) c.loop-byte.invariant.begun

@@ -1,5 +1,5 @@
 use Rattle.std.proofs.Common.{◌≡◌, ◌≤◌, take}
-use Rattle.answered_lines.specs.Lines.{kept_lines, kept_front, plain_lines}
+use Rattle.answered_lines.specs.Lines.{kept_lines, kept_prefix, plain_lines}
 use Rattle.answered_lines.specs.Answers.{AnswersAll}
 use Rattle.answered_lines.proofs.lines.answer_piece.Given as goal
 
@@ -7,6 +7,6 @@ use Rattle.answered_lines.proofs.lines.answer_piece.Given as goal
 abbrev pub invariant-loop-byte : goal.invariant-loop-byte
 invariant-loop-byte g l = record {
   answered : AnswersAll (g.K.Sink.written l.fn.sink) (g.K.Sink.written l.sink) (plain_lines (kept_lines l.fn.begun (take l.byte-index l.piece)));
-  begun : l.begun ≡ kept_front l.fn.begun (take l.byte-index l.piece);
+  begun : l.begun ≡ kept_prefix l.fn.begun (take l.byte-index l.piece);
   later : g.K.Sink.faults l.fn.sink ≤ g.K.Sink.faults l.sink;
 }

@@ -1,7 +1,7 @@
 use Rattle.std.proofs.Common.{rules, refl, SFits, w64}
 use Rattle.std.proofs.lemmas.Int.{to_z-of_z}
 use Rattle.book_model.specs.programs.Programs.{answer, integers}
-use Rattle.book_model.proofs.Leads.{leads_cell, leads_open_cell, leads_answer, lies}
+use Rattle.book_model.proofs.Leads.{leads_cell, leads_undecided_cell, leads_answer, lies}
 use Rattle.encl_core.proofs.StepWidths.{floor_close}
 use Rattle.encl_core.proofs.steps.floor_step.Goals as goal
 
@@ -12,7 +12,7 @@ returns-in-Ok-clause-leads g c = λ w e h.
 
 pub returns-in-Err-clause-leads : goal.returns-in-Err-clause-leads
 returns-in-Err-clause-leads g c = λ w e h.
-    rw (← c.in-Err.ensures.named.0) (leads_open_cell integers e _ answer _ c.in-Err.at (lies h) c.in-Err.ensures.named.1 c.in-Err.ensures.counted
+    rw (← c.in-Err.ensures.named.0) (leads_undecided_cell integers e _ answer _ c.in-Err.at (lies h) c.in-Err.ensures.named.1 c.in-Err.ensures.counted
     c.in-Err.ensures.undecided)
 
 pub returns-in-Err-clause-close : goal.returns-in-Err-clause-close

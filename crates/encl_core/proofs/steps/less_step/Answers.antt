@@ -1,6 +1,6 @@
 use Rattle.std.proofs.Common.{refl}
 use Rattle.book_model.specs.programs.Programs.{answer}
-use Rattle.book_model.proofs.Leads.{leads_compare, leads_open_compare, leads_answer, lies}
+use Rattle.book_model.proofs.Leads.{leads_compare, leads_undecided_compare, leads_answer, lies}
 use Rattle.encl_core.proofs.StepWidths.{less_close}
 use Rattle.encl_core.proofs.steps.less_step.Goals as goal
 
@@ -10,7 +10,7 @@ returns-in-Ok-clause-leads g c = λ w e f h k.
 
 pub returns-in-Err-clause-leads : goal.returns-in-Err-clause-leads
 returns-in-Err-clause-leads g c = λ w e f h k.
-    rw (← c.in-Err.ensures.named.0) (leads_open_compare e f _ _ answer _ c.in-Err.at (lies h) (lies k) c.in-Err.ensures.named.1 c.in-Err.ensures.counted
+    rw (← c.in-Err.ensures.named.0) (leads_undecided_compare e f _ _ answer _ c.in-Err.at (lies h) (lies k) c.in-Err.ensures.named.1 c.in-Err.ensures.counted
     c.in-Err.ensures.undecided)
 
 pub returns-in-Err-clause-close : goal.returns-in-Err-clause-close

@@ -2,7 +2,7 @@ use Rattle.std.proofs.Common.{arith, ◌≡◌, refl, ℤ, Option, Some, None, I
 use Rattle.book_model.specs.numbers.Expressions.{remainder}
 use Rattle.book_model.specs.programs.Leading.{between_cells}
 use Rattle.book_model.specs.programs.Programs.{answer, multiples}
-use Rattle.book_model.proofs.Leads.{leads_cell, leads_open_cell, leads_answer, lies}
+use Rattle.book_model.proofs.Leads.{leads_cell, leads_undecided_cell, leads_answer, lies}
 use Rattle.encl_core.proofs.StepWidths.{left_within, wrap_close}
 use Rattle.encl_core.proofs.steps.wrap_step.Goals as goal
 
@@ -20,8 +20,8 @@ returns-in-Ok-clause-leads g c = λ w e h.
 pub returns-in-Err-clause-leads : goal.returns-in-Err-clause-leads
 returns-in-Err-clause-leads g c = λ w e h.
     rw (← c.in-Err.ensures.named.0)
-    (leads_open_cell (multiples c.args.modulus) e _ (λ p. answer (remainder c.args.modulus e p)) _ c.in-Err.at (lies h) c.in-Err.ensures.named.1
-    c.in-Err.ensures.counted (between_cells c.in-Err.ensures.undecided.open_there c.in-Err.ensures.undecided.ends))
+    (leads_undecided_cell (multiples c.args.modulus) e _ (λ p. answer (remainder c.args.modulus e p)) _ c.in-Err.at (lies h) c.in-Err.ensures.named.1
+    c.in-Err.ensures.counted (between_cells c.in-Err.ensures.undecided.open_there c.in-Err.ensures.undecided.endpoints))
 
 pub returns-in-Ok-clause-measured : goal.returns-in-Ok-clause-measured
 returns-in-Ok-clause-measured g c = λ v e b h. left_within g.E.Enclosure.shown _ c.args.modulus v c.args.x c.in-Ok.rest e (omega (arith, c.ranges.modulus)) h

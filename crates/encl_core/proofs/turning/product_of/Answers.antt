@@ -1,7 +1,7 @@
 use Rattle.std.proofs.Common.{◌≡◌, arith, rules, SFits, pos, ◌^◌, ◌*ℤ◌}
 use Rattle.std.specs.Int.{w128}
 use Rattle.std.proofs.lemmas.Int.{ints, to_z-of_z}
-use Rattle.interval_ends.proofs.Scaling.{bounded_z}
+use Rattle.interval_endpoints.proofs.Scaling.{bounded_z}
 use Rattle.encl_core.proofs.turning.product_of.Goals as goal
 
 pub returns-clause-room : goal.returns-clause-room

@@ -1,7 +1,7 @@
 use Rattle.std.proofs.Common.{◌≡◌, refl, arith, rules, SFits, w64, ℤ, pos, ◌^◌, ◌+ℤ◌, ◌*ℤ◌}
 use Rattle.std.specs.Int.{w128}
 use Rattle.std.proofs.lemmas.Int.{ints, to_z-of_z}
-use Rattle.interval_ends.proofs.Scaling.{bounded_z}
+use Rattle.interval_endpoints.proofs.Scaling.{bounded_z}
 use Rattle.encl_core.proofs.turning.turned.Goals as goal
 
 -- there is room for a phase and for a rate times an endpoint

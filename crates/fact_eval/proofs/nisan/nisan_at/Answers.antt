@@ -8,7 +8,7 @@ use Rattle.book_model.specs.sky.Nisan.{nisan_of, nisan_by_of}
 use Rattle.book_model.proofs.Early.{three_made}
 use Rattle.book_model.proofs.Leads.{leads_on, leads_bind_exact, leaf_within}
 use Rattle.encl_core.proofs.Measuring.{moment_about}
-use Rattle.moon_core.proofs.Openings.{late_is_not_early}
+use Rattle.moon_core.proofs.UndecidedTests.{late_is_not_early}
 use Rattle.fact_eval.specs.Nisan.{next_equinox_of, nisan_on_of}
 use Rattle.book_model.proofs.Early.{least_first}
 use Rattle.fact_eval.proofs.Equinoxes.{equinox_least, equinox_near}

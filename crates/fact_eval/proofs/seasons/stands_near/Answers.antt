@@ -1,6 +1,6 @@
 use Rattle.book_model.proofs.Leads.{leads_on, leaf_within}
 use Rattle.fact_eval.specs.Seasons.{stands_on}
-use Rattle.moon_core.proofs.SunOnCourse.{answer_decided_at}
+use Rattle.moon_core.proofs.SunOnLinearModel.{answer_decided_at}
 use Rattle.fact_eval.proofs.seasons.stands_near.Goals as goal
 
 pub returns : goal.returns

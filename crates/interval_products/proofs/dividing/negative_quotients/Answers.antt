@@ -1,10 +1,10 @@
 use Rattle.std.proofs.Common.{◌≡◌, ℤ, sym, arith, rules, SFits, true≢false, ℕ, ◌<◌, ◌⊎◌, pos, ◌-ℤ◌, ◌+ℤ◌, ◌*ℤ◌, ◌≤ℤ◌}
 use Rattle.std.specs.Int.{w128}
 use Rattle.std.proofs.lemmas.Int.{ints, to_z-of_z}
-use Rattle.interval_ends.specs.Scales.{Scale, unit}
-use Rattle.interval_ends.specs.Rounding.{AreQuotientsAt}
-use Rattle.interval_ends.proofs.Divisions.{negative_enclosed}
-use Rattle.interval_ends.proofs.OnEnds.{shows, when_there, is_there}
+use Rattle.interval_endpoints.specs.Scales.{Scale, unit}
+use Rattle.interval_endpoints.specs.Rounding.{AreQuotientsAt}
+use Rattle.interval_endpoints.proofs.Divisions.{negative_enclosed}
+use Rattle.interval_endpoints.proofs.OnEndpoints.{shows, when_there, is_there}
 use Rattle.interval_products.specs.Close.{size_between}
 use Rattle.interval_products.proofs.Fitting.{opposite_divides, by_negative}
 use Rattle.interval_products.proofs.Closeness.{negative_close}
@@ -75,8 +75,8 @@ quotients-requires-clause-last g c =
     let hb = simp to_z-of_z at c.in_ok-b.ensures in
     simp to_z-of_z (opposite_divides g.I.MachineWord.scale _ _ c.wide-2.ensures.fits (omega (arith, ints, hb.1)))
 
-pub ends_of-requires : goal.ends_of-requires
-ends_of-requires g c =
+pub endpoints_of-requires : goal.endpoints_of-requires
+endpoints_of-requires g c =
     let fa : SFits w128 c.in_ok-a.a = search rules in
     let fb : SFits w128 c.in_ok-b.b = search rules in
     let fc : SFits w128 c.in_ok-c.c = search rules in
@@ -115,7 +115,7 @@ record AreOfOpposites (scale : Scale) (a b c d x y z w lo hi : ℤ) : Type 0 whe
   greatest : w ≡ pos 0 -ℤ c
   quotients : AreQuotientsAt scale x y z w lo hi
 
-of_opposites : (g : _) (c : goal.After-ends_of g)
+of_opposites : (g : _) (c : goal.After-endpoints_of g)
     → AreOfOpposites g.I.MachineWord.scale (g.I.MachineWord.value c.args.x.lo)
     (g.I.MachineWord.value c.args.x.hi) (g.I.MachineWord.value c.args.y.lo) (g.I.MachineWord.value c.args.y.hi)
     c.in_ok-a.a c.in_ok-b.b c.in_ok-c.c
@@ -147,7 +147,7 @@ returns-clause-holds g c =
     let fl : SFits w128 c.in_ok-lo.lo = search rules in
     let fh : SFits w128 c.in_ok-lo.hi = search rules in
     let o = of_opposites g c in
-    let e = simp to_z-of_z at c.ends_of.ensures.ends in
+    let e = simp to_z-of_z at c.endpoints_of.ensures.endpoints in
     negative_enclosed g.I.MachineWord.scale _ _ _ _ _ _ _ _ _ _ _ c.args.x.ordered c.requires c.args.y.ordered o.first
     o.last o.least o.greatest
     o.quotients (shows _ _ _ e)
@@ -157,7 +157,7 @@ returns-clause-close g c =
     let fl : SFits w128 c.in_ok-lo.lo = search rules in
     let fh : SFits w128 c.in_ok-lo.hi = search rules in
     let o = of_opposites g c in
-    let e = simp to_z-of_z at c.ends_of.ensures.ends in
+    let e = simp to_z-of_z at c.endpoints_of.ensures.endpoints in
     let x = g.I.MachineWord.value c.args.x.lo in
     let y = g.I.MachineWord.value c.args.x.hi in
     let d = g.I.MachineWord.value c.args.y.lo in
@@ -171,5 +171,5 @@ pub returns-clause-some : goal.returns-clause-some
 returns-clause-some g c =
     let fl : SFits w128 c.in_ok-lo.lo = search rules in
     let fh : SFits w128 c.in_ok-lo.hi = search rules in
-    let e = simp to_z-of_z at c.ends_of.ensures.ends in
+    let e = simp to_z-of_z at c.endpoints_of.ensures.endpoints in
     λ k t. is_there _ _ _ e k fl fh

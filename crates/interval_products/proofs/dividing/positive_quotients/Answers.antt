@@ -1,10 +1,10 @@
 use Rattle.std.proofs.Common.{refl, sym, rules, SFits, true≢false, ℕ, ◌<◌, ◌⊎◌, pos, ◌-ℤ◌, ◌+ℤ◌, ◌*ℤ◌, ◌≤ℤ◌}
 use Rattle.std.specs.Int.{w128}
 use Rattle.std.proofs.lemmas.Int.{to_z-of_z}
-use Rattle.interval_ends.specs.Scales.{unit}
-use Rattle.interval_ends.proofs.Divisions.{positive_enclosed}
-use Rattle.interval_ends.proofs.Ratios.{quotient_narrow}
-use Rattle.interval_ends.proofs.OnEnds.{shows, when_there, is_there}
+use Rattle.interval_endpoints.specs.Scales.{unit}
+use Rattle.interval_endpoints.proofs.Divisions.{positive_enclosed}
+use Rattle.interval_endpoints.proofs.Ratios.{quotient_narrow}
+use Rattle.interval_endpoints.proofs.OnEndpoints.{shows, when_there, is_there}
 use Rattle.interval_products.specs.Close.{size_between}
 use Rattle.interval_products.proofs.Fitting.{quotient_overflow, end_divides, by_positive}
 use Rattle.interval_products.proofs.Closeness.{positive_close}
@@ -50,8 +50,8 @@ quotients-requires-clause-last g c =
     let fd : SFits w128 c.wide-d.result = search rules in
     simp to_z-of_z (end_divides g.I.MachineWord.scale _ _ c.wide-b.ensures.fits refl)
 
-pub ends_of-requires : goal.ends_of-requires
-ends_of-requires g c =
+pub endpoints_of-requires : goal.endpoints_of-requires
+endpoints_of-requires g c =
     let fa : SFits w128 c.wide-a.result = search rules in
     let fb : SFits w128 c.wide-b.result = search rules in
     let fc : SFits w128 c.wide-c.result = search rules in
@@ -92,7 +92,7 @@ returns-clause-holds g c =
     let fh : SFits w128 c.in_ok-lo.hi = search rules in
     let q = simp (c.wide-a.ensures.value, c.wide-b.ensures.value, c.wide-c.ensures.value, c.wide-d.ensures.value) at
     (simp to_z-of_z at c.in_ok-lo.ensures.value) in
-    let e = simp to_z-of_z at c.ends_of.ensures.ends in
+    let e = simp to_z-of_z at c.endpoints_of.ensures.endpoints in
     positive_enclosed g.I.MachineWord.scale _ _ _ _ _ _ _ c.args.x.ordered c.requires c.args.y.ordered q (shows _ _ _ e)
 
 pub returns-clause-narrow : goal.returns-clause-narrow
@@ -105,7 +105,7 @@ returns-clause-narrow g c = λ w a b h n.
     let fh : SFits w128 c.in_ok-lo.hi = search rules in
     let q = simp (c.wide-a.ensures.value, c.wide-b.ensures.value, c.wide-c.ensures.value, c.wide-d.ensures.value) at
     (simp to_z-of_z at c.in_ok-lo.ensures.value) in
-    let e = simp to_z-of_z at c.ends_of.ensures.ends in
+    let e = simp to_z-of_z at c.endpoints_of.ensures.endpoints in
     quotient_narrow g.I.MachineWord.scale w a b _ _ _ _ _ _ _ q (shows _ _ _ e) h n
 
 pub returns-clause-close : goal.returns-clause-close
@@ -118,7 +118,7 @@ returns-clause-close g c =
     let fh : SFits w128 c.in_ok-lo.hi = search rules in
     let q = simp (c.wide-a.ensures.value, c.wide-b.ensures.value, c.wide-c.ensures.value, c.wide-d.ensures.value) at
     (simp to_z-of_z at c.in_ok-lo.ensures.value) in
-    let e = simp to_z-of_z at c.ends_of.ensures.ends in
+    let e = simp to_z-of_z at c.endpoints_of.ensures.endpoints in
     let x = g.I.MachineWord.value c.args.x.lo in
     let y = g.I.MachineWord.value c.args.x.hi in
     let d = g.I.MachineWord.value c.args.y.lo in
@@ -131,5 +131,5 @@ pub returns-clause-some : goal.returns-clause-some
 returns-clause-some g c =
     let fl : SFits w128 c.in_ok-lo.lo = search rules in
     let fh : SFits w128 c.in_ok-lo.hi = search rules in
-    let e = simp to_z-of_z at c.ends_of.ensures.ends in
+    let e = simp to_z-of_z at c.endpoints_of.ensures.endpoints in
     λ k t. is_there _ _ _ e k fl fh

@@ -1,7 +1,7 @@
 use Rattle.std.proofs.Common.{refl, rules, SFits}
 use Rattle.std.specs.Int.{w128}
 use Rattle.std.proofs.lemmas.Int.{to_z-of_z}
-use Rattle.interval_ends.proofs.Ratios.{quotients_are, divisor_positive, first_divisor_positive}
+use Rattle.interval_endpoints.proofs.Ratios.{quotients_are, divisor_positive, first_divisor_positive}
 use Rattle.interval_products.proofs.Fitting.{first_has, last_has}
 use Rattle.interval_products.proofs.dividing.quotients.Goals as goal
 

@@ -2,7 +2,7 @@ use Rattle.std.proofs.Common.{rules, SFits, pos, ◌^◌, ◌+ℤ◌, ◌*ℤ◌
 use Rattle.std.specs.Int.{w128}
 use Rattle.std.proofs.lemmas.Int.{to_z-of_z}
 use Rattle.book_model.proofs.Exactly.{checked_holds}
-use Rattle.interval_ends.specs.WholeRounding.{IsCeiling}
+use Rattle.interval_endpoints.specs.WholeRounding.{IsCeiling}
 use Rattle.interval_products.proofs.TwoSteps.{checked_some, step_up, ceiling_fits}
 use Rattle.interval_products.proofs.stepping.stepped_up.Goals as goal
 

@@ -1,7 +1,7 @@
 use Rattle.std.proofs.Common.{◌≡◌, ◌<◌, get_or, length, arith}
 use Rattle.std.proofs.lemmas.List.{take_rest}
 use Rattle.line_core.proofs.DateText.{found_at}
-use Rattle.line_core.proofs.PrintedFronts.{front_word, cut_at}
+use Rattle.line_core.proofs.PrintedPrefixes.{prefix_word, cut_at}
 use Rattle.line_core.proofs.line.cut_spaced.Goals as goal
 
 pub returns-clause-cut : goal.returns-clause-cut
@@ -12,4 +12,4 @@ returns-clause-cut c =
     simp take_rest (cut_at c.args.line.now c.in_ok-end.end within space)
 
 pub returns-clause-word : goal.returns-clause-word
-returns-clause-word c = front_word c.args.line.now c.in_ok-end.end c.in_ok-end.ensures.place (omega arith)
+returns-clause-word c = prefix_word c.args.line.now c.in_ok-end.end c.in_ok-end.ensures.place (omega arith)

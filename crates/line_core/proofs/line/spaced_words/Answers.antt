@@ -1,4 +1,4 @@
-use Rattle.line_core.proofs.PrintedFronts.{cut_twice}
+use Rattle.line_core.proofs.PrintedPrefixes.{cut_twice}
 use Rattle.line_core.proofs.line.spaced_words.Goals as goal
 
 pub returns-clause-line : goal.returns-clause-line

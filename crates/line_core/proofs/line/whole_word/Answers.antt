@@ -1,6 +1,6 @@
 use Rattle.std.proofs.Common.{◌<◌, length, arith}
 use Rattle.std.proofs.lemmas.Grind.{common_steps}
-use Rattle.line_core.proofs.PrintedFronts.{word_alone}
+use Rattle.line_core.proofs.PrintedPrefixes.{word_alone}
 use Rattle.line_core.proofs.line.whole_word.Goals as goal
 
 pub returns-in-None-clause-word : goal.returns-in-None-clause-word

@@ -14,10 +14,10 @@ returns-clause-holds g c = λ w x h.
     let a = h.angles in
     let terms = c.latitude_terms.ensures.holds w (lunar_angles_of (in_centuries x)) h.days.deep a in
     let venus = c.add.ensures.encloses.holds w _ _ terms
-    (c.venus.ensures.encloses.holds w _ _ (c.wave_angle.ensures.holds w x h.days) a.latitude_argument) in
+    (c.venus.ensures.encloses.holds w _ _ (c.term_angle.ensures.holds w x h.days) a.latitude_argument) in
     let flattening = c.add-2.ensures.encloses.holds w _ _ venus
     (c.flattening.ensures.encloses.holds w _ _ h.mean_longitude a.moon_anomaly) in
-    c.add-3.ensures.encloses.holds w _ _ flattening (c.sine_wave.ensures.holds w x h.days)
+    c.add-3.ensures.encloses.holds w _ _ flattening (c.sine_periodic_term.ensures.holds w x h.days)
 
 pub returns-clause-narrow : goal.returns-clause-narrow
 returns-clause-narrow g c = λ v e h.
@@ -32,8 +32,8 @@ returns-clause-narrow g c = λ v e h.
     let terms = terms_beside shown n v latitude_bound b h (6100000 * 2 ^ 32) (2338000 * 2 ^ 40)
     (2 ^ 48) _ c.latitude_terms.result refl (omega arith) within in
     let venus = c.add.ensures.encloses.narrow r _ _ terms (c.venus.ensures.encloses.narrow r _ _
-    (c.wave_angle.ensures.narrow r days_of d) f) in
+    (c.term_angle.ensures.narrow r days_of d) f) in
     let flattening = c.add-2.ensures.encloses.narrow r _ _ venus
     (c.flattening.ensures.encloses.narrow r _ _ (longitude_beside shown n v latitude_bound b h)
     (anomaly_beside shown n v latitude_bound b h)) in
-    c.add-3.ensures.encloses.narrow r _ _ flattening (c.sine_wave.ensures.narrow r days_of d)
+    c.add-3.ensures.encloses.narrow r _ _ flattening (c.sine_periodic_term.ensures.narrow r days_of d)

@@ -2,7 +2,7 @@ use Rattle.std.proofs.Common.{arith}
 use Rattle.std.proofs.lemmas.Int.{ints}
 use Rattle.book_model.specs.sky.Phases.{number_of_moon}
 use Rattle.book_model.proofs.Leads.{leads_on, leaf_within}
-use Rattle.moon_core.specs.Courses.{number_by, number_of_phase}
+use Rattle.moon_core.specs.LinearModels.{number_by, number_of_phase}
 use Rattle.moon_core.proofs.PhaseRanges.{number_found, late_found, within_world, dated_from, dated_to, near_low, near_high}
 use Rattle.moon_core.proofs.numbers.number.Goals as goal
 

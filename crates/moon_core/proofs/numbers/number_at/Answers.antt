@@ -1,4 +1,4 @@
-use Rattle.moon_core.specs.Courses.{number_by}
+use Rattle.moon_core.specs.LinearModels.{number_by}
 use Rattle.book_model.proofs.Leads.{leads_on, leaf_within}
 use Rattle.moon_core.proofs.numbers.number_at.Goals as goal
 

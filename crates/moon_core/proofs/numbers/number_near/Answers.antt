@@ -1,6 +1,6 @@
 use Rattle.book_model.proofs.Leads.{leads_on, leaf_within}
 use Rattle.sun_core.proofs.Passed.{answer_decides}
-use Rattle.moon_core.specs.Courses.{number_by}
+use Rattle.moon_core.specs.LinearModels.{number_by}
 use Rattle.moon_core.proofs.numbers.number_near.Goals as goal
 
 pub returns : goal.returns

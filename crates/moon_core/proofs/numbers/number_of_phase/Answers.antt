@@ -1,5 +1,5 @@
 use Rattle.std.proofs.Common.{arith, ◌+◌, ◌^◌}
-use Rattle.moon_core.specs.Courses.{number_of_phase}
+use Rattle.moon_core.specs.LinearModels.{number_of_phase}
 use Rattle.moon_core.proofs.Measured.{number_within}
 use Rattle.moon_core.proofs.numbers.number_of_phase.Goals as goal
 

@@ -4,7 +4,7 @@ use Rattle.book_model.specs.numbers.Expressions.{argument}
 use Rattle.book_model.proofs.Early.{elongation_least, three_made}
 use Rattle.book_model.proofs.Leads.{leaf_within}
 use Rattle.moon_core.proofs.PhaseRanges.{world_of, within_world}
-use Rattle.sun_core.proofs.Openings.{open_is_early, late_failure}
+use Rattle.sun_core.proofs.UndecidedTests.{open_is_early, late_failure}
 use Rattle.moon_core.proofs.phases.phase.Goals as goal
 
 pub returns-clause-early : goal.returns-clause-early

@@ -4,7 +4,7 @@ use Rattle.book_model.specs.sky.Phases.{phase_before_of}
 use Rattle.book_model.proofs.Early.{phase_past_least, three_made}
 use Rattle.book_model.proofs.Leads.{leads_on, leaf_within}
 use Rattle.sun_core.proofs.Worlds.{world_of_two, within_first, within_second}
-use Rattle.sun_core.proofs.Openings.{late_failure}
+use Rattle.sun_core.proofs.UndecidedTests.{late_failure}
 use Rattle.std.proofs.Common.{arith, ◌+◌, ◌-◌, ◌*◌, ◌^◌}
 use Rattle.sun_core.proofs.SearchMeasured.{moment_wider}
 use Rattle.moon_core.proofs.QuarterWidths.{back_within, passage_measured}

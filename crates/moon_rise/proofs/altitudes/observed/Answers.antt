@@ -1,7 +1,7 @@
 use Rattle.std.proofs.Common.{arith, ◌^◌}
 use Rattle.std.proofs.lemmas.Result.{err_from_is_err_and}
 use Rattle.book_model.specs.programs.Widths.{IsClose}
-use Rattle.time_scales.specs.Steps.{IsYearOpenFor}
+use Rattle.time_scales.specs.Steps.{IsYearUndecidedFor}
 use Rattle.moon_rise.proofs.Risings.{dated_exact, sidereal_never}
 use Rattle.moon_rise.proofs.altitudes.observed.Goals as goal
 
@@ -19,7 +19,7 @@ returns-in_err-greenwich-clause-measured g c = λ k t e.
 pub returns-in_err-greenwich-clause-open : goal.returns-in_err-greenwich-clause-open
 returns-in_err-greenwich-clause-open g c =
     let fails = err_from_is_err_and c.from_residual.result c.from_residual.ensures.1 in
-    rw (fails.1, fails.2) (sidereal_never g.E.Enclosure.shown g.E.Enclosure.proper c.args.t (IsYearOpenFor (g.E.Enclosure.shown c.args.t)) _ c.in_err-greenwich.ensures.leads)
+    rw (fails.1, fails.2) (sidereal_never g.E.Enclosure.shown g.E.Enclosure.proper c.args.t (IsYearUndecidedFor (g.E.Enclosure.shown c.args.t)) _ c.in_err-greenwich.ensures.leads)
 
 pub returns-in_err-tilt-clause-measured : goal.returns-in_err-tilt-clause-measured
 returns-in_err-tilt-clause-measured g c = λ k t e.

@@ -19,7 +19,7 @@ returns-clause-holds g c = λ w d.
     let n = simp to_z-of_z at c.node_term.ensures.holds in
     let a = simp to_z-of_z at c.lunar_terms.ensures.holds in
     let p = simp to_z-of_z at c.planet_terms.ensures.holds in
-    let venus = rw v at (c.venus_wave.ensures.encloses.holds w d) in
+    let venus = rw v at (c.venus_term.ensures.encloses.holds w d) in
     c.add-4.ensures.encloses.holds w _ _ (c.add-3.ensures.encloses.holds w _ _ (c.add-2.ensures.encloses.holds w _ _
     (c.add.ensures.encloses.holds w _ _ (m w d h) (n w d h)) (a w d h)) venus) (p w d)
 
@@ -33,9 +33,9 @@ returns-clause-measured g c = λ e k.
     let n = simp to_z-of_z at c.node_term.ensures.measured in
     let a = simp to_z-of_z at c.lunar_terms.ensures.measured in
     let p = simp to_z-of_z at c.planet_terms.ensures.measured in
-    all_within g.E.Enclosure.shown _ c.mean_new_moon.result c.node_term.result c.lunar_terms.result c.venus_wave.result
+    all_within g.E.Enclosure.shown _ c.mean_new_moon.result c.node_term.result c.lunar_terms.result c.venus_term.result
     c.planet_terms.result c.add.result
-    c.add-2.result c.add-3.result c.add-4.result e (n e k h) (a e k h) (c.venus_wave.ensures.measured e t) (p e k)
+    c.add-2.result c.add-3.result c.add-4.result e (n e k h) (a e k h) (c.venus_term.ensures.measured e t) (p e k)
     (λ r x y. c.add.ensures.encloses.narrow r x y) (λ r x y. c.add-2.ensures.encloses.narrow r x y)
     (λ r x y. c.add-3.ensures.encloses.narrow r x y)
     (λ r x y. c.add-4.ensures.encloses.narrow r x y)
@@ -53,8 +53,8 @@ returns-clause-recent g c = λ e q.
     let a = simp to_z-of_z at c.lunar_terms.ensures.measured in
     let p = simp to_z-of_z at c.planet_terms.ensures.measured in
     recent_within g.E.Enclosure.shown _ c.mean_new_moon.result c.node_term.result c.lunar_terms.result
-    c.venus_wave.result c.planet_terms.result c.add.result
-    c.add-2.result c.add-3.result c.add-4.result e (n e k h) (a e k h) (c.venus_wave.ensures.measured e t) (p e k)
+    c.venus_term.result c.planet_terms.result c.add.result
+    c.add-2.result c.add-3.result c.add-4.result e (n e k h) (a e k h) (c.venus_term.ensures.measured e t) (p e k)
     (λ r x y. c.add.ensures.encloses.narrow r x y) (λ r x y. c.add-2.ensures.encloses.narrow r x y)
     (λ r x y. c.add-3.ensures.encloses.narrow r x y)
     (λ r x y. c.add-4.ensures.encloses.narrow r x y)

@@ -1,7 +1,7 @@
 use Rattle.std.proofs.Common.{arith, pos, ◌^◌, ◌*◌, refl}
 use Rattle.std.proofs.lemmas.Int.{ints}
 use Rattle.periodic_terms.proofs.FoundTurns.{factor_found}
-use Rattle.periodic_terms.proofs.Narrowing.{ends_of, factor_span, some_span}
+use Rattle.periodic_terms.proofs.Narrowing.{endpoints_of, factor_span, some_span}
 use Rattle.periodic_terms.proofs.angle_turns.factor_of.Goals as goal
 
 pub returns-clause-near : goal.returns-clause-near
@@ -16,5 +16,5 @@ pub returns-clause-some : goal.returns-clause-some
 returns-clause-some g c = λ h.
     c.factor_of_span.ensures.some (factor_span (pos (2 ^ 30)) (pos (39 * 2 ^ 27)) (2 ^ 26) _ _ (omega (arith, ints))
     (omega (arith, ints)) (omega arith)
-    (ends_of (pos (2 ^ 30)) (pos (39 * 2 ^ 27)) (2 ^ 26) _ _ _ c.in_ok-span.span.ordered c.in_ok-span.ensures.holds
+    (endpoints_of (pos (2 ^ 30)) (pos (39 * 2 ^ 27)) (2 ^ 26) _ _ _ c.in_ok-span.span.ordered c.in_ok-span.ensures.holds
     c.in_ok-span.ensures.tight h))

@@ -4,7 +4,7 @@ use Rattle.book_model.proofs.Intervals.{within_trans}
 use Rattle.book_model.specs.sky.Distance.{distance_term_of}
 use Rattle.book_model.specs.sky.Moon.{no_term}
 use Rattle.periodic_terms.specs.declared.tables.TheConstants.{DISTANCE_SUMS}
-use Rattle.periodic_terms.proofs.Narrowing.{ends_within}
+use Rattle.periodic_terms.proofs.Narrowing.{endpoints_within}
 use Rattle.periodic_terms.proofs.TableRows.{few_rows, distance_few, distance_small, distance_sums, distance_terms}
 use Rattle.periodic_terms.proofs.TermSpans.{most_less}
 use Rattle.periodic_terms.proofs.tables.distance_sum.Goals as goal
@@ -29,7 +29,7 @@ returns c = record {
       let p = c.span_of.ensures.low in
       let q = c.span_of.ensures.high in
       let d = c.span_of.ensures.close in
-      ends_within (neg_ℤ (pos (29900000 * 2 ^ 32))) (pos (29900000 * 2 ^ 32)) (962000 * v + 2 ^ 50) _ _
+      endpoints_within (neg_ℤ (pos (29900000 * 2 ^ 32))) (pos (29900000 * 2 ^ 32)) (962000 * v + 2 ^ 50) _ _
       c.span_of.result.ordered (omega (arith, ints, p, l, m)) (omega (arith, ints, q, u, m))
       (omega (arith, ints, d, w));
 }

@@ -3,7 +3,7 @@ use Rattle.std.proofs.lemmas.Int.{ints}
 use Rattle.book_model.proofs.Intervals.{within_trans}
 use Rattle.book_model.specs.sky.Latitude.{latitude_term_of, no_latitude_term}
 use Rattle.periodic_terms.specs.declared.tables.TheConstants.{LATITUDE_SUMS}
-use Rattle.periodic_terms.proofs.Narrowing.{ends_within}
+use Rattle.periodic_terms.proofs.Narrowing.{endpoints_within}
 use Rattle.periodic_terms.proofs.TableRows.{few_rows, latitude_few, latitude_small, latitude_sums, latitude_terms}
 use Rattle.periodic_terms.proofs.TermSpans.{most_less}
 use Rattle.periodic_terms.proofs.tables.latitude_sum.Goals as goal
@@ -28,7 +28,7 @@ returns c = record {
       let p = c.span_of.ensures.low in
       let q = c.span_of.ensures.high in
       let d = c.span_of.ensures.close in
-      ends_within (neg_ℤ (pos (6100000 * 2 ^ 32))) (pos (6100000 * 2 ^ 32)) (167000 * v + 2 ^ 47) _ _
+      endpoints_within (neg_ℤ (pos (6100000 * 2 ^ 32))) (pos (6100000 * 2 ^ 32)) (167000 * v + 2 ^ 47) _ _
       c.span_of.result.ordered (omega (arith, ints, p, l, m)) (omega (arith, ints, q, u, m))
       (omega (arith, ints, d, w));
 }

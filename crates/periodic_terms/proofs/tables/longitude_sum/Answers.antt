@@ -4,7 +4,7 @@ use Rattle.book_model.proofs.Intervals.{within_trans}
 use Rattle.book_model.specs.sky.Moon.{longitude_term_of, no_term}
 use Rattle.book_model.specs.declared.moon_tables.TheConstants.{MOON_TERMS}
 use Rattle.periodic_terms.specs.declared.tables.TheConstants.{LONGITUDE_SUMS}
-use Rattle.periodic_terms.proofs.Narrowing.{ends_within}
+use Rattle.periodic_terms.proofs.Narrowing.{endpoints_within}
 use Rattle.periodic_terms.proofs.TableRows.{few_rows, longitude_few, longitude_small, longitude_sums, longitude_terms}
 use Rattle.periodic_terms.proofs.TermSpans.{most_less}
 use Rattle.periodic_terms.proofs.tables.longitude_sum.Goals as goal
@@ -30,7 +30,7 @@ returns c = record {
       let p = c.span_of.ensures.low in
       let q = c.span_of.ensures.high in
       let d = c.span_of.ensures.close in
-      ends_within (neg_ℤ (pos (9300000 * 2 ^ 32))) (pos (9300000 * 2 ^ 32)) (302000 * v + 2 ^ 49) _ _
+      endpoints_within (neg_ℤ (pos (9300000 * 2 ^ 32))) (pos (9300000 * 2 ^ 32)) (302000 * v + 2 ^ 49) _ _
       c.span_of.result.ordered (omega (arith, ints, p, l, m)) (omega (arith, ints, q, u, m))
       (omega (arith, ints, d, w));
 }

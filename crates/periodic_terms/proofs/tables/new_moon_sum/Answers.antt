@@ -3,7 +3,7 @@ use Rattle.std.proofs.lemmas.Int.{ints}
 use Rattle.book_model.proofs.Intervals.{within_trans}
 use Rattle.book_model.specs.sky.NewMoons.{new_moon_term_of, no_new_moon_term}
 use Rattle.periodic_terms.specs.declared.tables.TheConstants.{NEW_MOON_SUMS}
-use Rattle.periodic_terms.proofs.Narrowing.{ends_within}
+use Rattle.periodic_terms.proofs.Narrowing.{endpoints_within}
 use Rattle.periodic_terms.proofs.TableRows.{few_rows, new_moon_few, new_moon_small, new_moon_sums, new_moon_terms}
 use Rattle.periodic_terms.proofs.TermSpans.{most_less}
 use Rattle.periodic_terms.proofs.tables.new_moon_sum.Goals as goal
@@ -28,7 +28,7 @@ returns c = record {
       let p = c.span_of_parts.ensures.low in
       let q = c.span_of_parts.ensures.high in
       let d = c.span_of_parts.ensures.close in
-      ends_within (neg_ℤ (pos (2 ^ 32))) (pos (2 ^ 32)) (v / 64 + 2 ^ 27) _ _ c.span_of_parts.result.ordered
+      endpoints_within (neg_ℤ (pos (2 ^ 32))) (pos (2 ^ 32)) (v / 64 + 2 ^ 27) _ _ c.span_of_parts.result.ordered
       (omega (arith, ints, p, l, m)) (omega (arith, ints, q, u, m))
       (omega (arith, ints, d, w));
 }

@@ -1,17 +1,17 @@
 use Rattle.std.proofs.Common.{arith, ◌<◌, ◌≤◌, length}
-use Rattle.byte_streams.proofs.Flow.{at_any_err, front_then, wrote_flushed}
+use Rattle.byte_streams.proofs.Flow.{at_any_err, prefix_then, wrote_flushed}
 use Rattle.run_core.specs.Checking.{is_yes, is_no, is_skip, verdicts_of}
-use Rattle.run_core.proofs.CheckLemmas.{next_verdict, no_verdict, verdicts_on, verdicts_front, verdicts_end, counted, one_more, all_counted, all_yes, front_written}
+use Rattle.run_core.proofs.CheckLemmas.{next_verdict, no_verdict, verdicts_on, verdicts_prefix, verdicts_end, counted, one_more, all_counted, all_yes, prefix_written}
 use Rattle.run_core.proofs.check.write_verdicts.Goals as goal
 
 pub returns-in_err-verdict-clause-err : goal.returns-in_err-verdict-clause-err
-returns-in_err-verdict-clause-err g c = at_any_err _ (front_written _ _ _ _ c.loop-index.invariant.wrote)
+returns-in_err-verdict-clause-err g c = at_any_err _ (prefix_written _ _ _ _ c.loop-index.invariant.wrote)
 
 pub returns-in_err-put_verdict-clause-err : goal.returns-in_err-put_verdict-clause-err
 returns-in_err-put_verdict-clause-err g c =
     let within : c.loop-index.index < length c.args.file.now.lines = omega arith in
     let next = next_verdict c.args.file.now c.args.answers.now c.loop-index.index _ within c.in_ok-verdict.ensures.verdict in
-    at_any_err _ (verdicts_front _ _ _ _ c.loop-index.pending.bytes.items c.loop-index.index _ _ _ _ next c.loop-index.invariant.wrote
+    at_any_err _ (verdicts_prefix _ _ _ _ c.loop-index.pending.bytes.items c.loop-index.index _ _ _ _ next c.loop-index.invariant.wrote
     c.in_err-put_verdict.ensures.err)
 
 pub loop-index-preserved : goal.loop-index-preserved
@@ -38,7 +38,7 @@ returns-in_err-put_counts-clause-err g c =
     let no = all_counted is_no _ _ _ none c.loop-index.invariant.no in
     let skip = all_counted is_skip _ _ _ none c.loop-index.invariant.skip in
     let left = verdicts_end _ _ _ c.loop-index.pending.bytes.items c.loop-index.index _ _ none c.loop-index.invariant.wrote in
-    at_any_err _ (front_then _ _ _ _ _ left (rw (yes, no, skip) at c.in_err-put_counts.ensures.err))
+    at_any_err _ (prefix_then _ _ _ _ _ left (rw (yes, no, skip) at c.in_err-put_counts.ensures.err))
 
 pub returns : goal.returns
 returns g c =

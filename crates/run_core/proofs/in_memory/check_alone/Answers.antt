@@ -1,6 +1,6 @@
 use Rattle.std.proofs.lemmas.Result.{err_from_is_err_and}
 use Rattle.cert_check.proofs.FilesRead.{read_checkable}
-use Rattle.cert_read.specs.Reading.{grammar_of}
+use Rattle.cert_parser.specs.Reading.{grammar_of}
 use Rattle.run_core.specs.Checking.{cut_verdicts, cut_bad}
 use Rattle.run_core.proofs.CheckLemmas.{checks_come, refused, stopped_within}
 use Rattle.run_core.proofs.in_memory.check_alone.Goals as goal

@@ -1,7 +1,7 @@
 use Rattle.std.proofs.Common.{arith, ◌+◌, ◌*◌, ◌^◌}
 use Rattle.sun_core.proofs.PassageWidths.{short_within}
 use Rattle.std.proofs.lemmas.Result.{err_from_is_err_and}
-use Rattle.sun_core.proofs.Openings.{open_is_early}
+use Rattle.sun_core.proofs.UndecidedTests.{open_is_early}
 use Rattle.sun_core.proofs.passages.degrees_short.Goals as goal
 
 pub returns-clause-measured : goal.returns-clause-measured

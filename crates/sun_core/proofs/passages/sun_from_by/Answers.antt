@@ -6,7 +6,7 @@ use Rattle.sun_core.proofs.PassageWidths.{forward_within, passage_measured}
 use Rattle.book_model.specs.numbers.Expressions.{argument}
 use Rattle.book_model.proofs.Early.{three_made}
 use Rattle.sun_core.proofs.EarlyTests.{short_least}
-use Rattle.sun_core.proofs.Openings.{late_failure}
+use Rattle.sun_core.proofs.UndecidedTests.{late_failure}
 use Rattle.sun_core.proofs.Worlds.{world_of_two, within_first, within_second}
 use Rattle.sun_core.proofs.passages.sun_from_by.Goals as goal
 

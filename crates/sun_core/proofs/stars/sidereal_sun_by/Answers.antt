@@ -1,6 +1,6 @@
 use Rattle.book_model.specs.sky.Sidereal.{sidereal_sun_of}
 use Rattle.book_model.proofs.Leads.{leads_on, leaf_within}
-use Rattle.sun_core.proofs.OnCourse.{answer_follows}
+use Rattle.sun_core.proofs.OnLinearModel.{answer_follows}
 use Rattle.sun_core.proofs.stars.sidereal_sun_by.Goals as goal
 
 pub returns : goal.returns

@@ -2,7 +2,7 @@
 use crate::tests::known::correction_on;
 use crate::tests::verdicts::file_of;
 use byte_streams::Gathered;
-use cert_read::Lines;
+use cert_parser::Lines;
 use cert_text::{CertLine, write_line};
 use std::test::Fail;
 

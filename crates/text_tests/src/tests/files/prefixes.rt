@@ -29,8 +29,8 @@ const PREFIXES: [(usize, usize, Option<(usize, u8)>); 12] = [
 fn a_prefix_of_a_file_is_no_file(rt: HostRuntime) -> Result<(), Fail> {
     for (from, to, want) in PREFIXES {
         for length in from..to {
-            let front = &WHOLE[..length.min(WHOLE.len())];
-            assert_breaks(&rt, rt.alloc(), front, want, "a front")?;
+            let prefix = &WHOLE[..length.min(WHOLE.len())];
+            assert_breaks(&rt, rt.alloc(), prefix, want, "a front")?;
         }
     }
     Ok(())

@@ -48,7 +48,7 @@ pub const LISTS: &[&str] = &[
 ];
 
 /// Wrong counts, and lines after the end line.
-pub const ENDS: &[&str] = &[
+pub const ENDPOINTS: &[&str] = &[
     "line 1 refused 1\nend lines 0 facts 0",
     "line 1 refused 1\nend lines 2 facts 0",
     "fact 1 dt - 1 1\nend lines 0 facts 0",

@@ -1,6 +1,6 @@
 use Rattle.std.proofs.Common.{refl}
 use Rattle.std.proofs.lemmas.Result.{IfOk-weaker, IfErr-weaker}
-use Rattle.time_scales.proofs.Years.{year_shared, open_shared, open_everywhere, leads_year_test, leads_open_year}
+use Rattle.time_scales.proofs.Years.{year_shared, open_shared, open_everywhere, leads_year_test, leads_undecided_year}
 use Rattle.encl_core.proofs.Closing.{not_all}
 use Rattle.time_scales.proofs.Measured.{year_close}
 use Rattle.time_scales.proofs.moment.year.Goals as goal
@@ -28,7 +28,7 @@ returns-in-Some-clause-open g c =
     c.in-Some.ensures.tight o) c.year_between.ensures.open
 
 pub returns-in-None-clause-leads : goal.returns-in-None-clause-leads
-returns-in-None-clause-leads g c = λ w x h. leads_open_year _ _ _ h (open_everywhere _ (c.in-None.ensures.none refl), refl, c.step-turn.ensures.number)
+returns-in-None-clause-leads g c = λ w x h. leads_undecided_year _ _ _ h (open_everywhere _ (c.in-None.ensures.none refl), refl, c.step-turn.ensures.number)
     c.step-turn.ensures.counted
 
 pub returns-in-None-clause-open : goal.returns-in-None-clause-open
@@ -37,7 +37,7 @@ returns-in-None-clause-open g c = (open_everywhere _ (c.in-None.ensures.none ref
 pub returns-in-Some-clause-close : goal.returns-in-Some-clause-close
 returns-in-Some-clause-close g c = λ v b h.
     let s = c.in-Some.span in
-    year_close v s.lo s.hi _ c.year_between.result b h c.in-Some.ensures.tight c.year_between.ensures.ends
+    year_close v s.lo s.hi _ c.year_between.result b h c.in-Some.ensures.tight c.year_between.ensures.endpoints
 
 pub returns-in-None-clause-close : goal.returns-in-None-clause-close
 returns-in-None-clause-close g c = λ v b h. absurd (not_all _ _ v _ (c.in-None.ensures.none refl) h)

@@ -2,7 +2,7 @@ use Rattle.std.proofs.Common.{rules, arith, refl, SFits, w64, ◌≡◌}
 use Rattle.std.specs.Int.{w128}
 use Rattle.std.proofs.lemmas.Int.{to_z-of_z, ints}
 use Rattle.book_model.specs.programs.Leading.{between_cells}
-use Rattle.time_scales.proofs.Years.{year_same, year_apart, own_ends}
+use Rattle.time_scales.proofs.Years.{year_same, year_apart, own_endpoints}
 use Rattle.time_scales.proofs.moment.year_between.Goals as goal
 
 pub returns-then-first-year_beside-clause-decided : goal.returns-then-first-year_beside-clause-decided
@@ -25,4 +25,4 @@ returns-clause-open c =
     let p = simp to_z-of_z at c.year_at-first.ensures.year in
     let q = simp to_z-of_z at c.year_beside.ensures.year in
     let apart : (c.year_at-first.result ≡ c.year_beside.result → ⊥) = λ e. grind (arith, ints, to_z-of_z, c.if-first-year_beside.false) in
-    simp to_z-of_z (between_cells (year_apart c.args.span.lo c.args.span.hi _ _ p q apart) (own_ends c.args.span.lo c.args.span.hi), refl, refl)
+    simp to_z-of_z (between_cells (year_apart c.args.span.lo c.args.span.hi _ _ p q apart) (own_endpoints c.args.span.lo c.args.span.hi), refl, refl)

@@ -6,5 +6,5 @@ returns c = record {
   near =
       λ n m. sine_there n c.args.degrees c.angle.result c.sine_of_angle_64.result m c.requires.octant (c.angle.ensures.near n m)
       (λ x l t. c.sine_of_angle_64.ensures.near n x l t);
-  ends = λ n x l t. c.sine_of_angle_64.ensures.near n x l (c.angle.ensures.there x t);
+  endpoints = λ n x l t. c.sine_of_angle_64.ensures.near n x l (c.angle.ensures.there x t);
 }

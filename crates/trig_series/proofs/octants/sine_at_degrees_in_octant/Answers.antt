@@ -40,13 +40,13 @@ returns-clause-begins c = λ e.
     let k = simp to_z-of_z at c.sine_into_octant_of_turn.ensures.begins in
     turned_edge c.args.octant c.octant_in_turn.result _ _ v (k (omega (arith, ints, e)))
 
-pub returns-clause-ends : goal.returns-clause-ends
-returns-clause-ends c = λ e.
+pub returns-clause-endpoints : goal.returns-clause-endpoints
+returns-clause-endpoints c = λ e.
     let fo = c.ranges.octant in
     let fd = c.ranges.degrees in
     let ft : SFits w128 c.octant_in_turn.result = search rules in
     let fp : SFits w128 (c.args.octant *ℤ pos OCTANT) = omega (arith, ints, c.requires) in
     let fm : SFits w128 (c.args.degrees -ℤ c.args.octant *ℤ pos OCTANT) = omega (arith, ints, c.requires) in
     let v = simp to_z-of_z at c.octant_in_turn.ensures.value in
-    let k = simp to_z-of_z at c.sine_into_octant_of_turn.ensures.ends in
+    let k = simp to_z-of_z at c.sine_into_octant_of_turn.ensures.endpoints in
     next_edge c.args.octant c.octant_in_turn.result _ _ v (k (omega (arith, ints, e)))

@@ -73,11 +73,11 @@ record HaveSines (octant lo hi p q a b x y : ℤ) : Type 0 where
   low : LiesIn octant p a b
   high : LiesIn octant q x y
 
-cut_ends : (c : goal.After-hull)
+cut_endpoints : (c : goal.After-hull)
     → HaveSines c.args.octant c.args.lo c.args.hi c.max.result c.min.result c.sine_at_degrees_in_octant-low.result.lo
     c.sine_at_degrees_in_octant-low.result.hi c.sine_at_degrees_in_octant-high.result.lo
     c.sine_at_degrees_in_octant-high.result.hi
-cut_ends c =
+cut_endpoints c =
     let fo = c.ranges.octant in
     let fl = c.ranges.lo in
     let fh = c.ranges.hi in
@@ -102,7 +102,7 @@ cut_ends c =
 
 pub returns-clause-narrow : goal.returns-clause-narrow
 returns-clause-narrow c =
-    let t = cut_ends c in
+    let t = cut_endpoints c in
     let h =
     in_narrow c.args.octant c.max.result c.min.result _ _ _ _ _ _ t.cut.ordered t.low t.high c.hull.ensures.low
     c.hull.ensures.high in
@@ -124,8 +124,8 @@ returns-clause-begins c =
     let k = simp to_z-of_z at c.sine_at_degrees_in_octant-low.ensures.begins in
     hull_at_first _ _ _ _ _ _ _ c.hull.ensures.low c.hull.ensures.high (k (omega (arith, ints, clamps, u, e)))
 
-pub returns-clause-ends : goal.returns-clause-ends
-returns-clause-ends c =
+pub returns-clause-endpoints : goal.returns-clause-endpoints
+returns-clause-endpoints c =
     let fo = c.ranges.octant in
     let fl = c.ranges.lo in
     let fh = c.ranges.hi in
@@ -137,17 +137,17 @@ returns-clause-ends c =
     let u = simp to_z-of_z at c.max.ensures.value in
     let v = simp to_z-of_z at c.min.ensures.value in
     λ e.
-    let k = simp to_z-of_z at c.sine_at_degrees_in_octant-high.ensures.ends in
+    let k = simp to_z-of_z at c.sine_at_degrees_in_octant-high.ensures.endpoints in
     hull_at_second _ _ _ _ _ _ _ c.hull.ensures.low c.hull.ensures.high (k (omega (arith, ints, clamps, v, e)))
 
 pub returns-clause-small : goal.returns-clause-small
 returns-clause-small c =
-    let t = cut_ends c in
+    let t = cut_endpoints c in
     in_small c.args.octant c.args.lo c.args.hi c.max.result c.min.result _ _ _ _ _ _ t.cut.above
     t.cut.ordered t.cut.below t.low t.high c.hull.ensures.low c.hull.ensures.high
 
 pub returns-clause-crest : goal.returns-clause-crest
 returns-clause-crest c =
-    let t = cut_ends c in
+    let t = cut_endpoints c in
     in_crest c.args.octant c.args.lo c.args.hi c.max.result c.min.result _ _ _ _ _ t.cut.above
     t.cut.ordered t.cut.below t.low t.high c.hull.ensures.low

@@ -16,7 +16,7 @@ loop-octant-init c =
     let fa : SFits w128 (c.args.first +ℤ pos 1) = omega (arith, ints, c.requires.above, c.requires.below, c.requires.several) in
     let s = simp to_z-of_z at c.sine_over_degrees_in_octant-sine.ensures.holds in
     let n = simp to_z-of_z at c.sine_over_degrees_in_octant-sine.ensures.narrow in
-    let e = simp to_z-of_z at c.sine_over_degrees_in_octant-sine.ensures.ends in
+    let e = simp to_z-of_z at c.sine_over_degrees_in_octant-sine.ensures.endpoints in
     let m = simp to_z-of_z at c.sine_over_degrees_in_octant-sine.ensures.small in
     let t = simp to_z-of_z at c.sine_over_degrees_in_octant-sine.ensures.crest in
     record {
@@ -45,7 +45,7 @@ loop-octant-preserved c =
     let s = simp to_z-of_z at c.sine_over_degrees_in_octant.ensures.holds in
     let n = simp to_z-of_z at c.sine_over_degrees_in_octant.ensures.narrow in
     let b = simp to_z-of_z at c.sine_over_degrees_in_octant.ensures.begins in
-    let e = simp to_z-of_z at c.sine_over_degrees_in_octant.ensures.ends in
+    let e = simp to_z-of_z at c.sine_over_degrees_in_octant.ensures.endpoints in
     let m = simp to_z-of_z at c.sine_over_degrees_in_octant.ensures.small in
     let r = simp to_z-of_z at c.sine_over_degrees_in_octant.ensures.crest in
     record {

@@ -1,9 +1,9 @@
-use Rattle.interval_ends.specs.Scales.{coarse}
+use Rattle.interval_endpoints.specs.Scales.{coarse}
 use Rattle.std.proofs.Common.{rules, SFits, w64, sym}
 use Rattle.std.proofs.lemmas.Int.{to_z-of_z}
 use Rattle.encl_core.specs.Shown.{shown_coarse}
-use Rattle.interval_ends.proofs.Following.{within_remainder, narrow_remainder}
-use Rattle.interval_ends.proofs.Periods.{known_period}
+use Rattle.interval_endpoints.proofs.Following.{within_remainder, narrow_remainder}
+use Rattle.interval_endpoints.proofs.Periods.{known_period}
 use Rattle.encl_core.proofs.coarse.CoarseEnclosure.wrap.Goals as goal
 
 pub returns-in-Some-clause-holds : goal.returns-in-Some-clause-holds

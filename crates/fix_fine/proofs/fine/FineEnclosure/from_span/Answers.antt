@@ -1,14 +1,14 @@
-use Rattle.interval_ends.specs.Scales.{fine}
+use Rattle.interval_endpoints.specs.Scales.{fine}
 use Rattle.std.proofs.Common.{rules, SFits}
 use Rattle.std.specs.Int.{w128}
 use Rattle.std.proofs.lemmas.Int.{to_z-of_z}
-use Rattle.interval_ends.proofs.Following.{narrow_spanned}
+use Rattle.interval_endpoints.proofs.Following.{narrow_spanned}
 use Rattle.fix_fine.proofs.fine.FineEnclosure.from_span.Goals as goal
 
 pub returns : goal.returns
 returns c =
     let fa : SFits w128 c.args.span.lo = search rules in
     let fb : SFits w128 c.args.span.hi = search rules in
-    let h = simp to_z-of_z at c.ends_of_span.ensures.holds in
-    let n = simp to_z-of_z at c.ends_of_span.ensures.narrow in
+    let h = simp to_z-of_z at c.endpoints_of_span.ensures.holds in
+    let n = simp to_z-of_z at c.endpoints_of_span.ensures.narrow in
     record { holds = h; narrow = λ w b. narrow_spanned fine w b _ _ (n w b) }

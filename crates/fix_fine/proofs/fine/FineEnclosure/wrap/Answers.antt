@@ -1,11 +1,11 @@
-use Rattle.interval_ends.specs.Scales.{fine}
+use Rattle.interval_endpoints.specs.Scales.{fine}
 use Rattle.std.proofs.Common.{rules, arith, SFits, sym}
 use Rattle.std.specs.Int.{w128}
 use Rattle.std.proofs.lemmas.Int.{to_z-of_z}
 use Rattle.fix_fine.specs.Shown.{shown_fine}
-use Rattle.interval_ends.proofs.Following.{within_remainder, narrow_remainder}
-use Rattle.interval_ends.proofs.Periods.{known_period}
-use Rattle.fix_fine.proofs.Rows.{remainder_of_ends}
+use Rattle.interval_endpoints.proofs.Following.{within_remainder, narrow_remainder}
+use Rattle.interval_endpoints.proofs.Periods.{known_period}
+use Rattle.fix_fine.proofs.Rows.{remainder_of_endpoints}
 use Rattle.fix_fine.proofs.fine.FineEnclosure.wrap.Goals as goal
 
 pub returns-in-Some-clause-holds : goal.returns-in-Some-clause-holds
@@ -20,5 +20,5 @@ returns-in-Some-clause-narrow c = λ q r x h.
     narrow_remainder fine shown_fine r c.args.modulus x q _ _ c.rest_of_period.ensures.narrow h
 
 pub returns-in-Some-clause-table : goal.returns-in-Some-clause-table
-returns-in-Some-clause-table c = remainder_of_ends c.args.self.ends c.rest_of_period.result c.args.modulus (omega (arith, c.ranges.modulus))
+returns-in-Some-clause-table c = remainder_of_endpoints c.args.self.endpoints c.rest_of_period.result c.args.modulus (omega (arith, c.ranges.modulus))
     c.rest_of_period.ensures.narrow

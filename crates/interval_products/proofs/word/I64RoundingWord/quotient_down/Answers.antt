@@ -1,7 +1,7 @@
 use Rattle.std.proofs.Common.{ℤ, pos, ◌*ℤ◌, ◌^◌, arith, rules, SFits}
 use Rattle.std.specs.Int.{w128}
 use Rattle.std.proofs.lemmas.Int.{ints, to_z-of_z}
-use Rattle.interval_ends.specs.Scales.{coarse}
+use Rattle.interval_endpoints.specs.Scales.{coarse}
 use Rattle.interval_products.specs.Room.{IsDividend}
 use Rattle.interval_products.proofs.word.I64RoundingWord.quotient_down.Goals as goal
 

@@ -1,8 +1,8 @@
 use Rattle.std.proofs.Common.{rules, SFits, w64, sym}
 use Rattle.std.proofs.lemmas.Int.{to_z-of_z}
-use Rattle.interval_ends.proofs.Following.{within_remainder}
-use Rattle.interval_ends.proofs.Periods.{known_period}
-use Rattle.interval_ends.proofs.Unpromised.{narrow_remainder}
+use Rattle.interval_endpoints.proofs.Following.{within_remainder}
+use Rattle.interval_endpoints.proofs.Periods.{known_period}
+use Rattle.interval_endpoints.proofs.Unpromised.{narrow_remainder}
 use Rattle.enclosure_tests.proofs.tests.rough.RoughEnclosure.wrap.Goals as goal
 
 pub returns-in-Some-clause-holds : goal.returns-in-Some-clause-holds

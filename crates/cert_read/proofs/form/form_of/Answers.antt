@@ -1,6 +1,0 @@
-use Rattle.std.proofs.Common.{sym}
-use Rattle.cert_read.proofs.TakenWords.{spaced_are_words}
-use Rattle.cert_read.proofs.form.form_of.Goals as goal
-
-pub form_in-requires : goal.form_in-requires
-form_in-requires c = spaced_are_words c.args.line.now (sym c.if-is_spaced.ensures)

@@ -1,0 +1,8 @@
+use Rattle.byte_streams.proofs.Flow.{writes_first, writes_then}
+use Rattle.conversion.proofs.rows.write_spaced.Goals as goal
+
+pub returns-in_err-write_all : goal.returns-in_err-write_all
+returns-in_err-write_all g c = writes_first _ c.from_residual.ensures.0 c.in_err-write_all.ensures
+
+pub returns : goal.returns
+returns g c = writes_then c.in_ok-write_all.ensures c.write_all-2.ensures

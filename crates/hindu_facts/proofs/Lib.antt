@@ -1,4 +1,0 @@
-pub mod Openings
-pub mod HinduRuns
-pub mod Measured
-pub mod Moons

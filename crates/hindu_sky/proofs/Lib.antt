@@ -1,0 +1,4 @@
+pub mod UndecidedTests
+pub mod HinduRuns
+pub mod Measured
+pub mod Moons

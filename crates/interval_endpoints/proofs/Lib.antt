@@ -1,0 +1,24 @@
+-- of int_division, re-exported
+pub use Rattle.int_division.proofs.HighHalves
+pub use Rattle.int_division.proofs.Quotients
+pub use Rattle.int_division.proofs.Stepping
+pub mod Keeping
+pub mod Following
+pub mod Enclosing
+pub mod Margins
+pub mod Scaling
+pub mod Rounded
+pub mod Testing
+pub mod Unpromised
+pub mod Divisions
+pub mod Periods
+pub mod Widths
+pub mod Corners
+pub mod Products
+pub mod Ratios
+pub mod TermAngles
+pub mod RootEndpoints
+pub mod RootWidths
+pub mod Widenings
+pub mod OnEndpoints
+pub mod Past

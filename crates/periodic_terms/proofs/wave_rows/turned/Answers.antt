@@ -1,6 +1,0 @@
-use Rattle.std.proofs.Common.{rules}
-use Rattle.std.proofs.lemmas.Int.{wraps}
-use Rattle.periodic_terms.proofs.wave_rows.turned.Goals as goal
-
-pub returns : goal.returns
-returns c = record { value = search (rules, wraps) }

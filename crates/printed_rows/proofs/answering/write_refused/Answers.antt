@@ -1,8 +1,0 @@
-use Rattle.byte_streams.proofs.Flow.{writes_first, writes_then}
-use Rattle.printed_rows.proofs.answering.write_refused.Goals as goal
-
-pub returns-in_err-write_all : goal.returns-in_err-write_all
-returns-in_err-write_all g c = writes_first _ c.from_residual.ensures.0 c.in_err-write_all.ensures
-
-pub returns : goal.returns
-returns g c = writes_then c.in_ok-write_all.ensures (rw c.decimal.ensures at c.write_all-2.ensures)

@@ -1,7 +1,0 @@
-use Rattle.sun_core.proofs.courses.SunCourse.nutation.Goals as goal
-
-pub returns : goal.returns
-returns g c = record {
-  holds =
-      λ w x h. c.self.invariant.nutation w x (rw c.self.view_is h);
-}
