@@ -27,7 +27,8 @@ fixed_may n high =
 nothing_counted : (z : ℤ) → pos 0 *ℤ z ≡ pos 0
 nothing_counted z = omega (arith, ints)
 
-sum_of_nothing : (z : ℤ) → z ≡ pos 0 → pos 0 +ℤ z +ℤ (pos 0 *ℤ pos 0) +ℤ (pos 0 *ℤ pos 0) +ℤ (pos 0 *ℤ pos 0) +ℤ (pos 0 *ℤ pos 0) ≡ pos 0
+sum_of_nothing : (z : ℤ) → z ≡ pos 0 → pos 0 +ℤ z +ℤ (pos 0 *ℤ pos 0) +ℤ (pos 0 *ℤ pos 0) +ℤ (pos 0 *ℤ pos 0)
+    +ℤ (pos 0 *ℤ pos 0) ≡ pos 0
 sum_of_nothing z e = rw e refl
 
 -- the number of its year is 0, since a day number has none
@@ -46,16 +47,19 @@ in_reach n to day =
     let low = day.0 in
     let high = day.1 in
     let before = shown_before to in
-    let from_first : int_le (reach_of WRITTEN from.Fixed to).0 (pos n) ≡ true = grind (arith, ints, nat_tests, before) in
+    let from_first : int_le (reach_of WRITTEN from.Fixed to).0 (pos n) ≡ true = grind (arith, ints, nat_tests, before)
+    in
     let to_last : int_le (pos n) (days_in WRITTEN).1 ≡ true = grind (arith, ints, nat_tests) in
     rw (from_first, to_last) refl
 
-fixed_answered : (n : ℕ) (to : ToWord) → IsSampleDay n → is_answered WRITTEN (reach_of WRITTEN from.Fixed to) calendars.Fixed (fields_with (n ∷ [])) ≡ true
+fixed_answered : (n : ℕ) (to : ToWord) → IsSampleDay n → is_answered WRITTEN (reach_of WRITTEN from.Fixed to)
+    calendars.Fixed (fields_with (n ∷ [])) ≡ true
 unfolding is_answered
 fixed_answered n to day = rw (fixed_year n, in_reach n to day) refl
 
 -- the request of a state breaks no rule
-pub sample_checked : (state index : ℕ) → checked_request WRITTEN (sample_line_of state index) ≡ Ok (sample_line_of state index)
+pub sample_checked : (state index : ℕ) → checked_request WRITTEN (sample_line_of state index) ≡ Ok
+    (sample_line_of state index)
 unfolding sample_line_of
 sample_checked state index =
     let day = sample_day state in

@@ -26,7 +26,8 @@ january_to y h =
     let c = floor_quotient_is (pos y -ℤ pos 1) 399 in
     omega (arith, ints, h, a.not_above, a.close, b.not_above, b.close, c.not_above, c.close)
 
-months_are : (days : ℤ) → spans_of (fraction_of SYNODIC_MONTH) days (ratio (pos 0) 1) ≡ floor_quotient (days *ℤ pos 1000000000 *ℤ pos 1 +ℤ pos 0) 29530588860
+months_are : (days : ℤ) → spans_of (fraction_of SYNODIC_MONTH) days (ratio (pos 0) 1) ≡ floor_quotient
+    (days *ℤ pos 1000000000 *ℤ pos 1 +ℤ pos 0) 29530588860
 unfolding spans_of plus times reciprocal
 months_are days = refl
 
@@ -35,7 +36,8 @@ months_from days h =
     let f = floor_quotient_is (days *ℤ pos 1000000000 *ℤ pos 1 +ℤ pos 0) 29530588860 in
     omega (arith, ints, h, months_are days, f.not_above, f.close)
 
-pub months_few : (days : ℤ) → days ≤ℤ pos 600000 → spans_of (fraction_of SYNODIC_MONTH) days (ratio (pos 0) 1) ≤ℤ pos 21000
+pub months_few : (days : ℤ) → days ≤ℤ pos 600000 → spans_of (fraction_of SYNODIC_MONTH) days (ratio (pos 0) 1)
+    ≤ℤ pos 21000
 months_few days h =
     let f = floor_quotient_is (days *ℤ pos 1000000000 *ℤ pos 1 +ℤ pos 0) 29530588860 in
     omega (arith, ints, h, months_are days, f.not_above, f.close)

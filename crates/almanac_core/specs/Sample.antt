@@ -10,8 +10,8 @@ use Rattle.book_model.specs.lines.Requests.{fields_with}
 unfoldable pub state_after : ℕ → ℕ
 state_after state = (state * 6364136223846793005 + 1442695040888963407) % 2 ^ 64
 
--- the day that a state names: one of the 90,216 from 1 January 1802 to 31 December 2048. They are numbers of a sample's own, which
--- stay when a line may name more days.
+-- the day that a state names: one of the 90,216 from 1 January 1802 to 31 December 2048. They are numbers of a sample's
+-- own, which stay when a line may name more days.
 unfoldable pub day_by : ℕ → ℕ
 day_by state = 657802 + state / 2 ^ 33 % 90216
 
@@ -37,7 +37,8 @@ sample_line_of state index = record { from = from.Fixed; date = fields_with (day
 -- so many lines of a sample, after a state and from an index on
 abbrev pub sample_from : (state index many : ℕ) → List Request
 sample_from state index zero = []
-sample_from state index (suc many) = sample_line_of (state_after state) index ∷ sample_from (state_after state) (index + 1) many
+sample_from state index (suc many) = sample_line_of (state_after state) index ∷ sample_from (state_after state)
+    (index + 1) many
 
 -- the lines of a sample, whose generator begins at the seed
 abbrev pub sample_requests : (count seed : ℕ) → List Request

@@ -20,7 +20,8 @@ unfolding bisected_of after_test
 turn_is zero f y l u = refl
 turn_is (suc more) f y l u = refl
 
-pub when_near : (more : ℕ) (f : Expression → Program Expression) (y l u : Expression) → after_test more f y l u true ≡ answer (middle_of l u)
+pub when_near : (more : ℕ) (f : Expression → Program Expression) (y l u : Expression)
+    → after_test more f y l u true ≡ answer (middle_of l u)
 unfolding after_test
 when_near zero f y l u = refl
 when_near (suc more) f y l u = refl
@@ -31,7 +32,8 @@ no_turn f y l u = refl
 
 pub next_turn : (more : ℕ) (f : Expression → Program Expression) (y l u : Expression) → 1 ≤ more
     → after_test more f y l u false ≡ bind (has_passed_at f y (middle_of l u))
-    (λ passed. if passed then bisected_of (more - 1) f y l (middle_of l u) else bisected_of (more - 1) f y (middle_of l u) u)
+    (λ passed. if passed then bisected_of (more - 1) f y l (middle_of l u) else bisected_of (more - 1) f y
+    (middle_of l u) u)
 unfolding after_test
 next_turn zero f y l u h = absurd (omega (arith, h))
 next_turn (suc m) f y l u h = let z : suc m - 1 ≡ m = omega arith in rw z refl

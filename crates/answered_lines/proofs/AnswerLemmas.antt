@@ -1,5 +1,6 @@
 -- Answers to lines, and then to more: all of them, or a prefix of the answers to the first.
-use Rattle.std.proofs.Common.{◌≡◌, ◌∙◌, sym, ap, refl, ℕ, suc, ◌+◌, ◌⊎◌, inl, inr, Bool, List, [], ◌∷◌, ◌++◌, length, take, append_assoc, append-nil, length-append, zero-add, arith}
+use Rattle.std.proofs.Common.{◌≡◌, ◌∙◌, sym, ap, refl, ℕ, suc, ◌+◌, ◌⊎◌, inl, inr, Bool, List, [], ◌∷◌, ◌++◌, length}
+use Rattle.std.proofs.Common.{take, append_assoc, append-nil, length-append, zero-add, arith}
 use Rattle.std.proofs.lemmas.List.{take-append-le}
 use Rattle.std.specs.Prelude.{Err}
 use Rattle.std.specs.declared.option.Option.{Option}
@@ -25,14 +26,16 @@ answers_text-append [] ms [] ps h = refl
 answers_text-append [] ms (o ∷ os) ps h = absurd h
 answers_text-append (l ∷ ls) ms [] ps h = absurd h
 answers_text-append (l ∷ ls) ms (o ∷ os) ps h =
-    ap (λ t. answer_text l o ++ t) (answers_text-append ls ms os ps h.1) ∙ sym (append_assoc (answer_text l o) (answers_text ls os) (answers_text ms ps))
+    ap (λ t. answer_text l o ++ t) (answers_text-append ls ms os ps h.1)
+    ∙ sym (append_assoc (answer_text l o) (answers_text ls os) (answers_text ms ps))
 
 -- no line is answered yet
 pub none_answered : (a : Option (List ℕ)) → AnswersAll a a []
 none_answered a = record { outcomes = []; right = tt; written = appends_none a }
 
 -- lines are answered, and then more
-pub all_on : (a b c : Option (List ℕ)) (ls ms : List (List ℕ)) → AnswersAll a b ls → AnswersAll b c ms → AnswersAll a c (ls ++ ms)
+pub all_on : (a b c : Option (List ℕ)) (ls ms : List (List ℕ)) → AnswersAll a b ls → AnswersAll b c ms
+    → AnswersAll a c (ls ++ ms)
 all_on a b c ls ms h k = record {
   outcomes = h.outcomes ++ k.outcomes;
   right = right-append ls ms h.outcomes k.outcomes h.right k.right;
@@ -43,10 +46,12 @@ all_on a b c ls ms h k = record {
 -- as many lines as there are, and more of those behind them
 take_past : (ls ms : List (List ℕ)) (n : ℕ) → take (length ls + n) (ls ++ ms) ≡ ls ++ take n ms
 take_past [] ms n = rw (zero-add n) refl
-take_past (l ∷ ls) ms n = let one : length (l ∷ ls) + n ≡ suc (length ls + n) = omega arith in rw one (ap (λ t. l ∷ t) (take_past ls ms n))
+take_past (l ∷ ls) ms n = let one : length (l ∷ ls) + n ≡ suc (length ls + n) = omega arith in
+    rw one (ap (λ t. l ∷ t) (take_past ls ms n))
 
 -- lines are answered, and then a prefix of more is written
-pub cut_on : (a b c : Option (List ℕ)) (ls ms : List (List ℕ)) → AnswersAll a b ls → AnswersCut b c ms → AnswersCut a c (ls ++ ms)
+pub cut_on : (a b c : Option (List ℕ)) (ls ms : List (List ℕ)) → AnswersAll a b ls → AnswersCut b c ms
+    → AnswersCut a c (ls ++ ms)
 cut_on a b c ls ms h k = record {
   count = length ls + k.count;
   within = omega (arith, k.within, length-append ls ms);
@@ -75,7 +80,14 @@ cut_kept a b ls h = record {
   within = omega arith;
   outcomes = [];
   right = tt;
-  prefix = record { rest = []; wrote = record { prefix = []; appended = appends_kept a a b [] (appends_none a) h; whole = refl } };
+  prefix = record {
+    rest = [];
+    wrote = record {
+      prefix = [];
+      appended = appends_kept a a b [] (appends_none a) h;
+      whole = refl;
+    };
+  };
 }
 
 pub cut_none : (a : Option (List ℕ)) (ls : List (List ℕ)) → AnswersCut a a ls
@@ -86,7 +98,8 @@ pub cut_after : (a b : Option (List ℕ)) (ls ms : List (List ℕ)) → AnswersA
 cut_after a b ls ms h = cut_on a b b ls ms h (cut_none b ms)
 
 -- one line is answered
-pub one_answered : (a b : Option (List ℕ)) (l : List ℕ) (is : Bool) → Answered (answer_text l) a b l is → AnswersAll a b (l ∷ [])
+pub one_answered : (a b : Option (List ℕ)) (l : List ℕ) (is : Bool) → Answered (answer_text l) a b l is
+    → AnswersAll a b (l ∷ [])
 one_answered a b l is h = record {
   outcomes = h.outcome ∷ [];
   right = (h.right, tt);
@@ -103,12 +116,14 @@ one_cut a b l h = record {
   prefix = rw (append-nil (answer_text l h.outcome)) h.prefix;
 }
 
-pub one_stopped : (a b : Option (List ℕ)) (l : List ℕ) → Keeps a b ⊎ AnswerCutShort (answer_text l) a b l → AnswersCut a b (l ∷ [])
+pub one_stopped : (a b : Option (List ℕ)) (l : List ℕ) → Keeps a b ⊎ AnswerCutShort (answer_text l) a b l
+    → AnswersCut a b (l ∷ [])
 one_stopped a b l (inl kept) = cut_kept a b (l ∷ []) kept
 one_stopped a b l (inr cut) = one_cut a b l cut
 
 -- a call that has stopped wrote nothing, or a prefix of its text
-pub stop_left : {S T : Type 0} {written : S → Option (List ℕ)} {faults : S → ℕ} {old new : S} {finished : T → Type 0} {cut : Type 0} (why : WriteStop)
+pub stop_left : {S T : Type 0} {written : S → Option (List ℕ)} {faults : S → ℕ} {old new : S} {finished : T → Type 0}
+    {cut : Type 0} (why : WriteStop)
     → Performs written faults old new finished cut (Err why) → Keeps (written old) (written new) ⊎ cut
 stop_left stop.Fault h = inr (h.fault refl)
 stop_left stop.Memory h = h.memory refl

@@ -1,6 +1,7 @@
--- A line of which only a prefix is kept. A prefix of 202 bytes is refused by the first rule, as the line is; so the answer to what is kept of
--- a line is the answer to the line.
-use Rattle.std.proofs.Common.{◌≡◌, ◌∙◌, sym, ap, refl, ℕ, ◌+◌, ◌-◌, ◌<◌, ◌≤◌, ◌==◌, Bool, true, false, List, [], ◌∷◌, ◌++◌, length, map, take, arith}
+-- A line of which only a prefix is kept. A prefix of 202 bytes is refused by the first rule, as the line is; so the
+-- answer to what is kept of a line is the answer to the line.
+use Rattle.std.proofs.Common.{◌≡◌, ◌∙◌, sym, ap, refl, ℕ, ◌+◌, ◌-◌, ◌<◌, ◌≤◌, ◌==◌, Bool, true, false, List, [], ◌∷◌}
+use Rattle.std.proofs.Common.{◌++◌, length, map, take, arith}
 use Rattle.std.proofs.lemmas.Bool.Decides.{nat_tests}
 use Rattle.std.proofs.lemmas.List.{length-map, length-take, map-append, take-map, take_all}
 use Rattle.std.specs.Prelude.{if◌then◌else◌, nat_lt, nat_le, slice_index, Err}
@@ -45,11 +46,13 @@ prefix_answers : (line : List ℕ) (o : LineOutcome) → IsRightFor WRITTEN (wit
     → IsAnswerOf (without_return line) (without_return (take PREFIX line)) o
 prefix_answers line o h = by (nat_lt PREFIX (length line)) refl
   where
-    by : (t : Bool) → nat_lt PREFIX (length line) ≡ t → IsAnswerOf (without_return line) (without_return (take PREFIX line)) o
+    by : (t : Bool) → nat_lt PREFIX (length line) ≡ t
+        → IsAnswerOf (without_return line) (without_return (take PREFIX line)) o
     by true e =
         let long : PREFIX < length line = ltb-true _ _ e in
         let whole : 200 < length (without_return line) = omega (arith, length-without_return line) in
-        let kept : 200 < length (without_return (take PREFIX line)) = omega (arith, length-without_return (take PREFIX line), length-take PREFIX line) in
+        let kept : 200 < length (without_return (take PREFIX line)) =
+        omega (arith, length-without_return (take PREFIX line), length-take PREFIX line) in
         let is : o ≡ refused Syntax = long_right (without_return (take PREFIX line)) o kept h in
         record { right = right_long (without_return line) o whole is; text = rw is refl }
     by false e =
@@ -58,14 +61,17 @@ prefix_answers line o h = by (nat_lt PREFIX (length line)) refl
         record { right = rw same at h; text = ap (λ l. answer_text (without_return l) o) (sym same) }
 
 -- so it is for each of many
-right_prefixes : (lines : List (List ℕ)) (os : List LineOutcome) → AreRight WRITTEN (plain_lines (map (take PREFIX) lines)) os
+right_prefixes : (lines : List (List ℕ)) (os : List LineOutcome)
+    → AreRight WRITTEN (plain_lines (map (take PREFIX) lines)) os
     → AreRight WRITTEN (plain_lines lines) os
 right_prefixes [] [] h = tt
 right_prefixes [] (o ∷ os) h = absurd h
 right_prefixes (l ∷ lines) [] h = absurd h
-right_prefixes (l ∷ lines) (o ∷ os) h = let answer = prefix_answers l o h.0 in (answer.right, right_prefixes lines os h.1)
+right_prefixes (l ∷ lines) (o ∷ os) h = let answer = prefix_answers l o h.0 in
+    (answer.right, right_prefixes lines os h.1)
 
-text_prefixes : (lines : List (List ℕ)) (os : List LineOutcome) → AreRight WRITTEN (plain_lines (map (take PREFIX) lines)) os
+text_prefixes : (lines : List (List ℕ)) (os : List LineOutcome)
+    → AreRight WRITTEN (plain_lines (map (take PREFIX) lines)) os
     → answers_text (plain_lines lines) os ≡ answers_text (plain_lines (map (take PREFIX) lines)) os
 text_prefixes [] [] h = refl
 text_prefixes [] (o ∷ os) h = absurd h
@@ -75,14 +81,16 @@ text_prefixes (l ∷ lines) (o ∷ os) h =
     let here : answer_text (without_return l) o ≡ answer_text (without_return (take PREFIX l)) o = answer.text in
     rw (here, text_prefixes lines os h.1) refl
 
-all_prefixes : (a b : Option (List ℕ)) (lines : List (List ℕ)) → AnswersAll a b (plain_lines (map (take PREFIX) lines)) → AnswersAll a b (plain_lines lines)
+all_prefixes : (a b : Option (List ℕ)) (lines : List (List ℕ)) → AnswersAll a b (plain_lines (map (take PREFIX) lines))
+    → AnswersAll a b (plain_lines lines)
 all_prefixes a b lines h = record {
   outcomes = h.outcomes;
   right = right_prefixes lines h.outcomes h.right;
   written = rw (text_prefixes lines h.outcomes h.right) h.written;
 }
 
-cut_prefixes : (a b : Option (List ℕ)) (lines : List (List ℕ)) → AnswersCut a b (plain_lines (map (take PREFIX) lines)) → AnswersCut a b (plain_lines lines)
+cut_prefixes : (a b : Option (List ℕ)) (lines : List (List ℕ)) → AnswersCut a b (plain_lines (map (take PREFIX) lines))
+    → AnswersCut a b (plain_lines lines)
 cut_prefixes a b lines h =
     let n = h.count in
     let kept : take n (plain_lines (map (take PREFIX) lines)) ≡ plain_lines (map (take PREFIX) (take n lines)) =
@@ -91,7 +99,14 @@ cut_prefixes a b lines h =
     let right : AreRight WRITTEN (plain_lines (map (take PREFIX) (take n lines))) h.outcomes = rw kept at h.right in
     record {
       count = n;
-      within = omega (arith, h.within, length-map (map (take PREFIX) lines) without_return, length-map lines (take PREFIX), length-map lines without_return);
+      within = omega (
+        arith,
+        h.within,
+        length-map (map (take PREFIX) lines) without_return,
+        length-map lines
+            (take PREFIX),
+        length-map lines without_return,
+      );
       outcomes = h.outcomes;
       right = rw first (right_prefixes (take n lines) h.outcomes right);
       prefix = rw (first, text_prefixes (take n lines) h.outcomes right) (rw kept at h.prefix);
@@ -107,11 +122,17 @@ ended_answered a b input h =
 
 -- so are all lines of an input
 pub input_answered : (a b : Option (List ℕ)) (input : List ℕ)
-    → AnswersAll a b (plain_lines (kept_lines [] input) ++ plain_lines (last_line (kept_prefix [] input))) → AnswersAll a b (lines_of input)
+    → AnswersAll a b (plain_lines (kept_lines [] input) ++ plain_lines (last_line (kept_prefix [] input)))
+    → AnswersAll a b (lines_of input)
 input_answered a b input h =
-    all_prefixes a b (raw_lines input) (rw (← map-append without_return (kept_lines [] input) (last_line (kept_prefix [] input)), kept_input input) at h)
+    all_prefixes a b (raw_lines input)
+    (rw (← map-append without_return (kept_lines [] input) (last_line (kept_prefix [] input)), kept_input input) at
+    h)
 
 pub input_cut : (a b : Option (List ℕ)) (input : List ℕ)
-    → AnswersCut a b (plain_lines (kept_lines [] input) ++ plain_lines (last_line (kept_prefix [] input))) → AnswersCut a b (lines_of input)
+    → AnswersCut a b (plain_lines (kept_lines [] input) ++ plain_lines (last_line (kept_prefix [] input)))
+    → AnswersCut a b (lines_of input)
 input_cut a b input h =
-    cut_prefixes a b (raw_lines input) (rw (← map-append without_return (kept_lines [] input) (last_line (kept_prefix [] input)), kept_input input) at h)
+    cut_prefixes a b (raw_lines input)
+    (rw (← map-append without_return (kept_lines [] input) (last_line (kept_prefix [] input)), kept_input input) at
+    h)

@@ -10,7 +10,8 @@ use Rattle.answered_lines.specs.Lines.{ended_lines, plain_lines}
 use Rattle.run_core.specs.Writers.WriteStop.{WriteStop}
 use Rattle.run_core.specs.Writers.WriteStop.TheVariants as stop
 use Rattle.run_core.specs.declared.status.Status.{Status}
-use Rattle.run_core.specs.declared.status.Status.TheVariants.{Done, Mixed, Words, ReadFault, WriteFault, Memory, TooLarge, BadText}
+use Rattle.run_core.specs.declared.status.Status.TheVariants.{Done, Mixed, Words, ReadFault, WriteFault, Memory}
+use Rattle.run_core.specs.declared.status.Status.TheVariants.{TooLarge, BadText}
 
 -- for each line what stands for it by itself
 abbrev pub answers_text : List (List ℕ) → List LineOutcome → List ℕ

@@ -13,7 +13,8 @@ use Rattle.arc_series.specs.declared.pieces.Piece.{Piece}
 use Rattle.arc_series.specs.declared.pieces.Piece.TheVariants.{FarBelow, Below, Near, Above, FarAbove}
 use Rattle.arc_series.specs.Forms.{piece_of, begin_56, end_56}
 use Rattle.arc_series.specs.Widths.{IsThin, IsFrom, IsUpTo}
-use Rattle.arc_series.proofs.ArcAnchors.{near_half, near_minus_half, near_none, above_half, above_one, above_three, beyond_three, below_half, below_one}
+use Rattle.arc_series.proofs.ArcAnchors.{near_half, near_minus_half, near_none, above_half, above_one, above_three}
+use Rattle.arc_series.proofs.ArcAnchors.{beyond_three, below_half, below_one}
 use Rattle.arc_series.proofs.ArcAnchors.{below_three, far_below_three, AreApart, apart, in_quarters}
 
 split : (j k : ℤ) → (j ≤ℤ k) ⊎ ((k +ℤ pos 1) ≤ℤ j)
@@ -22,9 +23,18 @@ split j k = grind (arith, ints)
 -- ---- numbers of pieces
 pub in_piece : (p : Piece) (k : ℤ) → begin_56 p ≤ℤ k → k ≤ℤ end_56 p → InPiece (piece_of p) (units_of_56 k)
 in_piece FarBelow k h l = record { from = tt; to = record { cross = omega (arith, ints, l) } }
-in_piece Below k h l = record { from = record { cross = omega (arith, ints, h) }; to = record { cross = omega (arith, ints, l) } }
-in_piece Near k h l = record { from = record { cross = omega (arith, ints, h) }; to = record { cross = omega (arith, ints, l) } }
-in_piece Above k h l = record { from = record { cross = omega (arith, ints, h) }; to = record { cross = omega (arith, ints, l) } }
+in_piece Below k h l = record {
+  from = record { cross = omega (arith, ints, h) };
+  to = record { cross = omega (arith, ints, l) };
+}
+in_piece Near k h l = record {
+  from = record { cross = omega (arith, ints, h) };
+  to = record { cross = omega (arith, ints, l) };
+}
+in_piece Above k h l = record {
+  from = record { cross = omega (arith, ints, h) };
+  to = record { cross = omega (arith, ints, l) };
+}
 in_piece FarAbove k h l = record { from = record { cross = omega (arith, ints, h) }; to = tt }
 
 -- ---- what an arctangent is off those at the edges, and at -1, 0 and 1
@@ -32,102 +42,128 @@ in_piece FarAbove k h l = record { from = record { cross = omega (arith, ints, h
 abbrev pub Holds : Piece → (k lo hi : ℤ) → Type 0
 Holds p k lo hi = (piece_of p).arc 40 (units_of_56 k) ⊆ between (units_of_56 lo) (units_of_56 hi)
 
-near_from_none : (k lo hi : ℤ) → InPiece (piece_of Near) (units_of_56 k) → pos 0 ≤ℤ k → Holds Near k lo hi → AreApart (k -ℤ (pos 0)) (pos 0) (pos 0) lo hi
+near_from_none : (k lo hi : ℤ) → InPiece (piece_of Near) (units_of_56 k) → pos 0 ≤ℤ k → Holds Near k lo hi
+    → AreApart (k -ℤ (pos 0)) (pos 0) (pos 0) lo hi
 unfolding plus
 near_from_none k lo hi w h i =
-    apart Near zero_F (units_of_56 k) _ _ _ lo hi (record { from = record { cross = record { le = tt } }; to = record { cross = record { le = tt } } }) w
+    apart Near zero_F (units_of_56 k) _ _ _ lo hi
+    (record { from = record { cross = record { le = tt } }; to = record { cross = record { le = tt } } }) w
     (record { cross = omega (arith, ints, h) }) (record { cross = omega (arith, ints) }) near_none i
 
-near_from_half : (k lo hi : ℤ) → InPiece (piece_of Near) (units_of_56 k) → neg_ℤ (pos (2 ^ 55)) ≤ℤ k → Holds Near k lo hi
+near_from_half : (k lo hi : ℤ) → InPiece (piece_of Near) (units_of_56 k) → neg_ℤ (pos (2 ^ 55)) ≤ℤ k
+    → Holds Near k lo hi
     → AreApart (k -ℤ (neg_ℤ (pos (2 ^ 55)))) (neg_ℤ (pos 1914213673314665425)) (neg_ℤ (pos 1914213673314665422)) lo hi
 unfolding plus
 near_from_half k lo hi w h i =
-    apart Near minus_half (units_of_56 k) _ _ _ lo hi (record { from = record { cross = record { le = tt } }; to = record { cross = record { le = tt } } }) w
+    apart Near minus_half (units_of_56 k) _ _ _ lo hi
+    (record { from = record { cross = record { le = tt } }; to = record { cross = record { le = tt } } }) w
     (record { cross = omega (arith, ints, h) }) (record { cross = omega (arith, ints) }) near_minus_half i
 
 near_to_half : (k lo hi : ℤ) → InPiece (piece_of Near) (units_of_56 k) → k ≤ℤ (pos (2 ^ 55)) → Holds Near k lo hi
     → AreApart ((pos (2 ^ 55)) -ℤ k) lo hi (pos 1914213673314665422) (pos 1914213673314665425)
 unfolding plus
 near_to_half k lo hi w h i =
-    apart Near (units_of_56 k) half _ lo hi _ _ w (record { from = record { cross = record { le = tt } }; to = record { cross = record { le = tt } } })
+    apart Near (units_of_56 k) half _ lo hi _ _ w
+    (record { from = record { cross = record { le = tt } }; to = record { cross = record { le = tt } } })
     (record { cross = omega (arith, ints, h) }) (record { cross = omega (arith, ints) }) i near_half
 
-near_to_none : (k lo hi : ℤ) → InPiece (piece_of Near) (units_of_56 k) → k ≤ℤ (pos 0) → Holds Near k lo hi → AreApart ((pos 0) -ℤ k) lo hi (pos 0) (pos 0)
+near_to_none : (k lo hi : ℤ) → InPiece (piece_of Near) (units_of_56 k) → k ≤ℤ (pos 0) → Holds Near k lo hi
+    → AreApart ((pos 0) -ℤ k) lo hi (pos 0) (pos 0)
 unfolding plus
 near_to_none k lo hi w h i =
-    apart Near (units_of_56 k) zero_F _ lo hi _ _ w (record { from = record { cross = record { le = tt } }; to = record { cross = record { le = tt } } })
+    apart Near (units_of_56 k) zero_F _ lo hi _ _ w
+    (record { from = record { cross = record { le = tt } }; to = record { cross = record { le = tt } } })
     (record { cross = omega (arith, ints, h) }) (record { cross = omega (arith, ints) }) i near_none
 
 above_from_half : (k lo hi : ℤ) → InPiece (piece_of Above) (units_of_56 k) → pos (2 ^ 55) ≤ℤ k → Holds Above k lo hi
     → AreApart (k -ℤ (pos (2 ^ 55))) (pos 1914213673314665422) (pos 1914213673314665425) lo hi
 unfolding plus
 above_from_half k lo hi w h i =
-    apart Above half (units_of_56 k) _ _ _ lo hi (record { from = record { cross = record { le = tt } }; to = record { cross = record { le = tt } } }) w
+    apart Above half (units_of_56 k) _ _ _ lo hi
+    (record { from = record { cross = record { le = tt } }; to = record { cross = record { le = tt } } }) w
     (record { cross = omega (arith, ints, h) }) (record { cross = omega (arith, ints) }) above_half i
 
 above_from_one : (k lo hi : ℤ) → InPiece (piece_of Above) (units_of_56 k) → pos (2 ^ 56) ≤ℤ k → Holds Above k lo hi
     → AreApart (k -ℤ (pos (2 ^ 56))) (pos (45 * 2 ^ 56)) (pos (45 * 2 ^ 56)) lo hi
 unfolding plus
 above_from_one k lo hi w h i =
-    apart Above one (units_of_56 k) _ _ _ lo hi (record { from = record { cross = record { le = tt } }; to = record { cross = record { le = tt } } }) w
+    apart Above one (units_of_56 k) _ _ _ lo hi
+    (record { from = record { cross = record { le = tt } }; to = record { cross = record { le = tt } } }) w
     (record { cross = omega (arith, ints, h) }) (record { cross = omega (arith, ints) }) above_one i
 
 above_to_one : (k lo hi : ℤ) → InPiece (piece_of Above) (units_of_56 k) → k ≤ℤ (pos (2 ^ 56)) → Holds Above k lo hi
     → AreApart ((pos (2 ^ 56)) -ℤ k) lo hi (pos (45 * 2 ^ 56)) (pos (45 * 2 ^ 56))
 unfolding plus
 above_to_one k lo hi w h i =
-    apart Above (units_of_56 k) one _ lo hi _ _ w (record { from = record { cross = record { le = tt } }; to = record { cross = record { le = tt } } })
+    apart Above (units_of_56 k) one _ lo hi _ _ w
+    (record { from = record { cross = record { le = tt } }; to = record { cross = record { le = tt } } })
     (record { cross = omega (arith, ints, h) }) (record { cross = omega (arith, ints) }) i above_one
 
-above_to_three : (k lo hi : ℤ) → InPiece (piece_of Above) (units_of_56 k) → k ≤ℤ (pos (3 * 2 ^ 56)) → Holds Above k lo hi
+above_to_three : (k lo hi : ℤ) → InPiece (piece_of Above) (units_of_56 k) → k ≤ℤ (pos (3 * 2 ^ 56))
+    → Holds Above k lo hi
     → AreApart ((pos (3 * 2 ^ 56)) -ℤ k) lo hi (pos 5156805405021422542) (pos 5156805405021422545)
 unfolding plus
 above_to_three k lo hi w h i =
     apart Above (units_of_56 k) (whole (pos 3)) _ lo hi _ _ w
-    (record { from = record { cross = record { le = tt } }; to = record { cross = record { le = tt } } }) (record { cross = omega (arith, ints, h) })
+    (record { from = record { cross = record { le = tt } }; to = record { cross = record { le = tt } } })
+    (record { cross = omega (arith, ints, h) })
     (record { cross = omega (arith, ints) }) i above_three
 
-beyond_from_three : (k lo hi : ℤ) → InPiece (piece_of FarAbove) (units_of_56 k) → pos (3 * 2 ^ 56) ≤ℤ k → Holds FarAbove k lo hi
+beyond_from_three : (k lo hi : ℤ) → InPiece (piece_of FarAbove) (units_of_56 k) → pos (3 * 2 ^ 56) ≤ℤ k
+    → Holds FarAbove k lo hi
     → AreApart (k -ℤ (pos (3 * 2 ^ 56))) (pos 5156805405021422542) (pos 5156805405021422545) lo hi
 unfolding plus
 beyond_from_three k lo hi w h i =
-    apart FarAbove (whole (pos 3)) (units_of_56 k) _ _ _ lo hi (record { from = record { cross = record { le = tt } }; to = tt }) w
+    apart FarAbove (whole (pos 3)) (units_of_56 k) _ _ _ lo hi
+    (record { from = record { cross = record { le = tt } }; to = tt }) w
     (record { cross = omega (arith, ints, h) }) (record { cross = omega (arith, ints) }) beyond_three i
 
-below_to_half : (k lo hi : ℤ) → InPiece (piece_of Below) (units_of_56 k) → k ≤ℤ (neg_ℤ (pos (2 ^ 55))) → Holds Below k lo hi
+below_to_half : (k lo hi : ℤ) → InPiece (piece_of Below) (units_of_56 k) → k ≤ℤ (neg_ℤ (pos (2 ^ 55)))
+    → Holds Below k lo hi
     → AreApart ((neg_ℤ (pos (2 ^ 55))) -ℤ k) lo hi (neg_ℤ (pos 1914213673314665425)) (neg_ℤ (pos 1914213673314665422))
 unfolding plus
 below_to_half k lo hi w h i =
-    apart Below (units_of_56 k) minus_half _ lo hi _ _ w (record { from = record { cross = record { le = tt } }; to = record { cross = record { le = tt } } })
+    apart Below (units_of_56 k) minus_half _ lo hi _ _ w
+    (record { from = record { cross = record { le = tt } }; to = record { cross = record { le = tt } } })
     (record { cross = omega (arith, ints, h) }) (record { cross = omega (arith, ints) }) i below_half
 
-below_to_one : (k lo hi : ℤ) → InPiece (piece_of Below) (units_of_56 k) → k ≤ℤ (neg_ℤ (pos (2 ^ 56))) → Holds Below k lo hi
+below_to_one : (k lo hi : ℤ) → InPiece (piece_of Below) (units_of_56 k) → k ≤ℤ (neg_ℤ (pos (2 ^ 56)))
+    → Holds Below k lo hi
     → AreApart ((neg_ℤ (pos (2 ^ 56))) -ℤ k) lo hi (neg_ℤ (pos (45 * 2 ^ 56))) (neg_ℤ (pos (45 * 2 ^ 56)))
 unfolding plus
 below_to_one k lo hi w h i =
-    apart Below (units_of_56 k) minus_one _ lo hi _ _ w (record { from = record { cross = record { le = tt } }; to = record { cross = record { le = tt } } })
+    apart Below (units_of_56 k) minus_one _ lo hi _ _ w
+    (record { from = record { cross = record { le = tt } }; to = record { cross = record { le = tt } } })
     (record { cross = omega (arith, ints, h) }) (record { cross = omega (arith, ints) }) i below_one
 
-below_from_one : (k lo hi : ℤ) → InPiece (piece_of Below) (units_of_56 k) → neg_ℤ (pos (2 ^ 56)) ≤ℤ k → Holds Below k lo hi
+below_from_one : (k lo hi : ℤ) → InPiece (piece_of Below) (units_of_56 k) → neg_ℤ (pos (2 ^ 56)) ≤ℤ k
+    → Holds Below k lo hi
     → AreApart (k -ℤ (neg_ℤ (pos (2 ^ 56)))) (neg_ℤ (pos (45 * 2 ^ 56))) (neg_ℤ (pos (45 * 2 ^ 56))) lo hi
 unfolding plus
 below_from_one k lo hi w h i =
-    apart Below minus_one (units_of_56 k) _ _ _ lo hi (record { from = record { cross = record { le = tt } }; to = record { cross = record { le = tt } } }) w
+    apart Below minus_one (units_of_56 k) _ _ _ lo hi
+    (record { from = record { cross = record { le = tt } }; to = record { cross = record { le = tt } } }) w
     (record { cross = omega (arith, ints, h) }) (record { cross = omega (arith, ints) }) below_one i
 
-below_from_three : (k lo hi : ℤ) → InPiece (piece_of Below) (units_of_56 k) → neg_ℤ (pos (3 * 2 ^ 56)) ≤ℤ k → Holds Below k lo hi
-    → AreApart (k -ℤ (neg_ℤ (pos (3 * 2 ^ 56)))) (neg_ℤ (pos 5156805405021422545)) (neg_ℤ (pos 5156805405021422542)) lo hi
+below_from_three : (k lo hi : ℤ) → InPiece (piece_of Below) (units_of_56 k) → neg_ℤ (pos (3 * 2 ^ 56)) ≤ℤ k
+    → Holds Below k lo hi
+    → AreApart (k -ℤ (neg_ℤ (pos (3 * 2 ^ 56)))) (neg_ℤ (pos 5156805405021422545)) (neg_ℤ (pos 5156805405021422542)) lo
+    hi
 unfolding plus
 below_from_three k lo hi w h i =
     apart Below (whole (negsuc 2)) (units_of_56 k) _ _ _ lo hi
-    (record { from = record { cross = record { le = tt } }; to = record { cross = record { le = tt } } }) w (record { cross = omega (arith, ints, h) })
+    (record { from = record { cross = record { le = tt } }; to = record { cross = record { le = tt } } }) w
+    (record { cross = omega (arith, ints, h) })
     (record { cross = omega (arith, ints) }) below_three i
 
-far_to_three : (k lo hi : ℤ) → InPiece (piece_of FarBelow) (units_of_56 k) → k ≤ℤ (neg_ℤ (pos (3 * 2 ^ 56))) → Holds FarBelow k lo hi
-    → AreApart ((neg_ℤ (pos (3 * 2 ^ 56))) -ℤ k) lo hi (neg_ℤ (pos 5156805405021422545)) (neg_ℤ (pos 5156805405021422542))
+far_to_three : (k lo hi : ℤ) → InPiece (piece_of FarBelow) (units_of_56 k) → k ≤ℤ (neg_ℤ (pos (3 * 2 ^ 56)))
+    → Holds FarBelow k lo hi
+    → AreApart ((neg_ℤ (pos (3 * 2 ^ 56))) -ℤ k) lo hi (neg_ℤ (pos 5156805405021422545))
+    (neg_ℤ (pos 5156805405021422542))
 unfolding plus
 far_to_three k lo hi w h i =
-    apart FarBelow (units_of_56 k) (whole (negsuc 2)) _ lo hi _ _ w (record { from = tt; to = record { cross = record { le = tt } } })
+    apart FarBelow (units_of_56 k) (whole (negsuc 2)) _ lo hi _ _ w
+    (record { from = tt; to = record { cross = record { le = tt } } })
     (record { cross = omega (arith, ints, h) }) (record { cross = omega (arith, ints) }) i far_below_three
 
 -- ---- where the arctangent of a number in a piece lies
@@ -135,15 +171,18 @@ pub record IsRanged (k lo hi : ℤ) : Type 0 where
   pub above : IsFrom k lo
   pub below : IsUpTo k hi
 
-near_ranged : (k lo hi : ℤ) → begin_56 Near ≤ℤ k → k ≤ℤ end_56 Near → IsThin lo hi → Holds Near k lo hi → IsRanged k lo hi
+near_ranged : (k lo hi : ℤ) → begin_56 Near ≤ℤ k → k ≤ℤ end_56 Near → IsThin lo hi → Holds Near k lo hi
+    → IsRanged k lo hi
 near_ranged k lo hi g l t h = by_sign (split (pos 0) k)
   where
     w : InPiece (piece_of Near) (units_of_56 k)
     w = in_piece Near k g l
 
-    by_endpoints : AreApart (k -ℤ neg_ℤ (pos (2 ^ 55))) (neg_ℤ (pos 1914213673314665425)) (neg_ℤ (pos 1914213673314665422)) lo hi
+    by_endpoints : AreApart (k -ℤ neg_ℤ (pos (2 ^ 55))) (neg_ℤ (pos 1914213673314665425))
+        (neg_ℤ (pos 1914213673314665422)) lo hi
         → AreApart (pos (2 ^ 55) -ℤ k) lo hi (pos 1914213673314665422) (pos 1914213673314665425)
-        → int_min (pos 0) (k *ℤ pos 573) ≤ℤ ((lo +ℤ pos 10) *ℤ pos 10) → int_min (pos 0) (neg_ℤ k *ℤ pos 573) ≤ℤ ((neg_ℤ hi +ℤ pos 10) *ℤ pos 10)
+        → int_min (pos 0) (k *ℤ pos 573) ≤ℤ ((lo +ℤ pos 10) *ℤ pos 10)
+        → int_min (pos 0) (neg_ℤ k *ℤ pos 573) ≤ℤ ((neg_ℤ hi +ℤ pos 10) *ℤ pos 10)
         → IsRanged k lo hi
     by_endpoints a b m n = record {
       above = record {
@@ -163,11 +202,13 @@ near_ranged k lo hi g l t h = by_sign (split (pos 0) k)
     by_sign : (pos 0 ≤ℤ k) ⊎ ((k +ℤ pos 1) ≤ℤ pos 0) → IsRanged k lo hi
     by_sign (inl s) =
         let o = near_from_none k lo hi w s h in
-        by_endpoints (near_from_half k lo hi w g h) (near_to_half k lo hi w l h) (omega (arith, ints, clamps, o.rise, s, t.thin))
+        by_endpoints (near_from_half k lo hi w g h) (near_to_half k lo hi w l h)
+        (omega (arith, ints, clamps, o.rise, s, t.thin))
         (omega (arith, ints, clamps, o.climb, s, t.thin))
     by_sign (inr s) =
         let o = near_to_none k lo hi w (omega (arith, ints, s)) h in
-        by_endpoints (near_from_half k lo hi w g h) (near_to_half k lo hi w l h) (omega (arith, ints, clamps, o.climb, s, t.thin))
+        by_endpoints (near_from_half k lo hi w g h) (near_to_half k lo hi w l h)
+        (omega (arith, ints, clamps, o.climb, s, t.thin))
         (omega (arith, ints, clamps, o.rise, s, t.thin))
 
 -- what is known of the arctangent of a number from 1/2 to 3
@@ -178,7 +219,8 @@ record IsAbove (k lo hi : ℤ) : Type 0 where
   most : (lo *ℤ pos 10) ≤ℤ (pos 1914213673314665425 *ℤ pos 10 +ℤ (k -ℤ pos (2 ^ 55)) *ℤ pos 573)
   last : lo ≤ℤ pos 5156805405021422545
   one_below : int_min (pos 0) ((k -ℤ pos (2 ^ 56)) *ℤ pos 573) ≤ℤ ((lo -ℤ pos (45 * 2 ^ 56) +ℤ pos 10) *ℤ pos 10)
-  one_above : int_min (pos 0) ((neg_ℤ k +ℤ pos (2 ^ 56)) *ℤ pos 573) ≤ℤ ((neg_ℤ hi +ℤ pos (45 * 2 ^ 56) +ℤ pos 10) *ℤ pos 10)
+  one_above : int_min (pos 0) ((neg_ℤ k +ℤ pos (2 ^ 56)) *ℤ pos 573)
+      ≤ℤ ((neg_ℤ hi +ℤ pos (45 * 2 ^ 56) +ℤ pos 10) *ℤ pos 10)
 
 above_from : (k lo hi : ℤ) → IsAbove k lo hi → IsFrom k lo
 above_from k lo hi a = record {
@@ -196,32 +238,46 @@ above_to k lo hi a = record {
   one = omega (arith, ints, clamps, a.most, a.thin, a.from);
 }
 
-above_known : (k lo hi : ℤ) → begin_56 Above ≤ℤ k → k ≤ℤ end_56 Above → IsThin lo hi → Holds Above k lo hi → IsAbove k lo hi
+above_known : (k lo hi : ℤ) → begin_56 Above ≤ℤ k → k ≤ℤ end_56 Above → IsThin lo hi → Holds Above k lo hi
+    → IsAbove k lo hi
 above_known k lo hi g l t h = by_side (split (pos (2 ^ 56)) k)
   where
     w : InPiece (piece_of Above) (units_of_56 k)
     w = in_piece Above k g l
 
     by_one : int_min (pos 0) ((k -ℤ pos (2 ^ 56)) *ℤ pos 573) ≤ℤ ((lo -ℤ pos (45 * 2 ^ 56) +ℤ pos 10) *ℤ pos 10)
-        → int_min (pos 0) ((neg_ℤ k +ℤ pos (2 ^ 56)) *ℤ pos 573) ≤ℤ ((neg_ℤ hi +ℤ pos (45 * 2 ^ 56) +ℤ pos 10) *ℤ pos 10) → IsAbove k lo hi
+        → int_min (pos 0) ((neg_ℤ k +ℤ pos (2 ^ 56)) *ℤ pos 573) ≤ℤ ((neg_ℤ hi +ℤ pos (45 * 2 ^ 56) +ℤ pos 10) *ℤ pos
+        10) → IsAbove k lo hi
     by_one m n =
         let a = above_from_half k lo hi w g h in
-        record { thin = t.thin; from = g; least = a.rise; most = a.climb; last = (above_to_three k lo hi w l h).rise; one_below = m; one_above = n }
+        record {
+          thin = t.thin;
+          from = g;
+          least = a.rise;
+          most = a.climb;
+          last = (above_to_three k lo hi w l h).rise;
+          one_below = m;
+          one_above = n;
+        }
 
     by_side : (pos (2 ^ 56) ≤ℤ k) ⊎ ((k +ℤ pos 1) ≤ℤ pos (2 ^ 56)) → IsAbove k lo hi
     by_side (inl s) = let o = above_from_one k lo hi w s h in by_one (omega (arith, ints, clamps, o.rise, s, t.thin))
         (omega (arith, ints, clamps, o.climb, s, t.thin))
-    by_side (inr s) = let o = above_to_one k lo hi w (omega (arith, ints, s)) h in by_one (omega (arith, ints, clamps, o.climb, s, t.thin))
+    by_side (inr s) = let o = above_to_one k lo hi w (omega (arith, ints, s)) h in
+        by_one (omega (arith, ints, clamps, o.climb, s, t.thin))
         (omega (arith, ints, clamps, o.rise, s, t.thin))
 
-below_known : (k lo hi : ℤ) → begin_56 Below ≤ℤ k → k ≤ℤ end_56 Below → IsThin lo hi → Holds Below k lo hi → IsAbove (neg_ℤ k) (neg_ℤ hi) (neg_ℤ lo)
+below_known : (k lo hi : ℤ) → begin_56 Below ≤ℤ k → k ≤ℤ end_56 Below → IsThin lo hi → Holds Below k lo hi
+    → IsAbove (neg_ℤ k) (neg_ℤ hi) (neg_ℤ lo)
 below_known k lo hi g l t h = by_side (split k (neg_ℤ (pos (2 ^ 56))))
   where
     w : InPiece (piece_of Below) (units_of_56 k)
     w = in_piece Below k g l
 
-    by_one : int_min (pos 0) ((neg_ℤ k -ℤ pos (2 ^ 56)) *ℤ pos 573) ≤ℤ ((neg_ℤ hi -ℤ pos (45 * 2 ^ 56) +ℤ pos 10) *ℤ pos 10)
-        → int_min (pos 0) ((neg_ℤ (neg_ℤ k) +ℤ pos (2 ^ 56)) *ℤ pos 573) ≤ℤ ((neg_ℤ (neg_ℤ lo) +ℤ pos (45 * 2 ^ 56) +ℤ pos 10) *ℤ pos 10)
+    by_one : int_min (pos 0) ((neg_ℤ k -ℤ pos (2 ^ 56)) *ℤ pos 573)
+        ≤ℤ ((neg_ℤ hi -ℤ pos (45 * 2 ^ 56) +ℤ pos 10) *ℤ pos 10)
+        → int_min (pos 0) ((neg_ℤ (neg_ℤ k) +ℤ pos (2 ^ 56)) *ℤ pos 573)
+        ≤ℤ ((neg_ℤ (neg_ℤ lo) +ℤ pos (45 * 2 ^ 56) +ℤ pos 10) *ℤ pos 10)
         → IsAbove (neg_ℤ k) (neg_ℤ hi) (neg_ℤ lo)
     by_one m n =
         let a = below_to_half k lo hi w l h in
@@ -236,10 +292,12 @@ below_known k lo hi g l t h = by_side (split k (neg_ℤ (pos (2 ^ 56))))
           one_above = n;
         }
 
-    by_side : (k ≤ℤ neg_ℤ (pos (2 ^ 56))) ⊎ ((neg_ℤ (pos (2 ^ 56)) +ℤ pos 1) ≤ℤ k) → IsAbove (neg_ℤ k) (neg_ℤ hi) (neg_ℤ lo)
+    by_side : (k ≤ℤ neg_ℤ (pos (2 ^ 56))) ⊎ ((neg_ℤ (pos (2 ^ 56)) +ℤ pos 1) ≤ℤ k)
+        → IsAbove (neg_ℤ k) (neg_ℤ hi) (neg_ℤ lo)
     by_side (inl s) = let o = below_to_one k lo hi w s h in by_one (omega (arith, ints, clamps, o.rise, s, t.thin))
         (omega (arith, ints, clamps, o.climb, s, t.thin))
-    by_side (inr s) = let o = below_from_one k lo hi w (omega (arith, ints, s)) h in by_one (omega (arith, ints, clamps, o.climb, s, t.thin))
+    by_side (inr s) = let o = below_from_one k lo hi w (omega (arith, ints, s)) h in
+        by_one (omega (arith, ints, clamps, o.climb, s, t.thin))
         (omega (arith, ints, clamps, o.rise, s, t.thin))
 
 -- and of that of one from 3 on
@@ -265,7 +323,8 @@ beyond_to k lo hi a = record {
   one = omega (arith, ints, clamps, a.last, a.thin, a.from);
 }
 
-beyond_known : (k lo hi : ℤ) → begin_56 FarAbove ≤ℤ k → k ≤ℤ end_56 FarAbove → IsThin lo hi → Holds FarAbove k lo hi → IsBeyond k lo hi
+beyond_known : (k lo hi : ℤ) → begin_56 FarAbove ≤ℤ k → k ≤ℤ end_56 FarAbove → IsThin lo hi → Holds FarAbove k lo hi
+    → IsBeyond k lo hi
 beyond_known k lo hi g l t h =
     let w = in_piece FarAbove k g l in record {
       thin = t.thin;
@@ -274,12 +333,18 @@ beyond_known k lo hi g l t h =
       last = (in_quarters FarAbove (units_of_56 k) lo hi w h).first;
     }
 
-far_known : (k lo hi : ℤ) → begin_56 FarBelow ≤ℤ k → k ≤ℤ end_56 FarBelow → IsThin lo hi → Holds FarBelow k lo hi → IsBeyond (neg_ℤ k) (neg_ℤ hi) (neg_ℤ lo)
+far_known : (k lo hi : ℤ) → begin_56 FarBelow ≤ℤ k → k ≤ℤ end_56 FarBelow → IsThin lo hi → Holds FarBelow k lo hi
+    → IsBeyond (neg_ℤ k) (neg_ℤ hi) (neg_ℤ lo)
 far_known k lo hi g l t h =
     let w = in_piece FarBelow k g l in
     let a = far_to_three k lo hi w l h in
     let b = in_quarters FarBelow (units_of_56 k) lo hi w h in
-    record { thin = omega (arith, ints, t.thin); from = omega (arith, ints, l); least = omega (arith, ints, a.rise); last = omega (arith, ints, b.second) }
+    record {
+      thin = omega (arith, ints, t.thin);
+      from = omega (arith, ints, l);
+      least = omega (arith, ints, a.rise);
+      last = omega (arith, ints, b.second);
+    }
 
 twice : (k : ℤ) → neg_ℤ (neg_ℤ k) ≡ k
 twice k = omega (arith, ints)
@@ -288,12 +353,17 @@ twice k = omega (arith, ints)
 turned_from : (k z : ℤ) → IsUpTo (neg_ℤ k) (neg_ℤ z) → IsFrom k z
 turned_from k z h = subst (λ y. IsFrom y z) (twice k) (subst (λ y. IsFrom (neg_ℤ (neg_ℤ k)) y) (twice z) h)
 
-pub ranged : (p : Piece) (k lo hi : ℤ) → begin_56 p ≤ℤ k → k ≤ℤ end_56 p → IsThin lo hi → Holds p k lo hi → IsRanged k lo hi
-ranged FarBelow k lo hi g l t h = let a = far_known k lo hi g l t h in record { above = turned_from k lo (beyond_to _ _ _ a); below = beyond_from _ _ _ a }
-ranged Below k lo hi g l t h = let a = below_known k lo hi g l t h in record { above = turned_from k lo (above_to _ _ _ a); below = above_from _ _ _ a }
+pub ranged : (p : Piece) (k lo hi : ℤ) → begin_56 p ≤ℤ k → k ≤ℤ end_56 p → IsThin lo hi → Holds p k lo hi
+    → IsRanged k lo hi
+ranged FarBelow k lo hi g l t h = let a = far_known k lo hi g l t h in
+    record { above = turned_from k lo (beyond_to _ _ _ a); below = beyond_from _ _ _ a }
+ranged Below k lo hi g l t h = let a = below_known k lo hi g l t h in
+    record { above = turned_from k lo (above_to _ _ _ a); below = above_from _ _ _ a }
 ranged Near k lo hi g l t h = near_ranged k lo hi g l t h
-ranged Above k lo hi g l t h = let a = above_known k lo hi g l t h in record { above = above_from k lo hi a; below = above_to k lo hi a }
-ranged FarAbove k lo hi g l t h = let a = beyond_known k lo hi g l t h in record { above = beyond_from k lo hi a; below = beyond_to k lo hi a }
+ranged Above k lo hi g l t h = let a = above_known k lo hi g l t h in
+    record { above = above_from k lo hi a; below = above_to k lo hi a }
+ranged FarAbove k lo hi g l t h = let a = beyond_known k lo hi g l t h in
+    record { above = beyond_from k lo hi a; below = beyond_to k lo hi a }
 
 -- ---- from fewer numbers on, and of the lesser of two
 pub from_lower : (j k z : ℤ) → j ≤ℤ k → IsFrom k z → IsFrom j z

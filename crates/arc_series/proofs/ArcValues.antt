@@ -1,16 +1,19 @@
 -- The kernel holds the arctangents of the model in degrees, at single numbers from -1/2 to 1/2.
-use Rattle.std.proofs.Common.{◌≡◌, ℕ, zero, suc, ◌+◌, ◌*◌, ◌/◌, ◌-◌, ◌^◌, ◌≤◌, refl, ◌∙◌, sym, subst, ap, arith, Bool, true, false, ℤ, pos, negsuc, ◌+ℤ◌}
+use Rattle.std.proofs.Common.{◌≡◌, ℕ, zero, suc, ◌+◌, ◌*◌, ◌/◌, ◌-◌, ◌^◌, ◌≤◌, refl, ◌∙◌, sym, subst, ap, arith, Bool}
+use Rattle.std.proofs.Common.{true, false, ℤ, pos, negsuc, ◌+ℤ◌}
 use Rattle.std.proofs.Common.{◌-ℤ◌, ◌*ℤ◌, ◌≤ℤ◌, [], ◌∷◌}
 use Rattle.std.proofs.lemmas.Int.{ints}
 use lib.IntN.{neg_ℤ}
-use Rattle.book_model.specs.Fraction.{Fraction, ◌≤F◌, ◌≈◌, whole, plus, opposite, times, size, reciprocal, power, is_at_most, smaller, larger}
+use Rattle.book_model.specs.Fraction.{Fraction, ◌≤F◌, ◌≈◌, whole, plus, opposite, times, size, reciprocal, power}
+use Rattle.book_model.specs.Fraction.{is_at_most, smaller, larger}
 use Rattle.book_model.specs.Interval.{Interval, between, ◌⊆◌, sum, negative, product, quotient, least, greatest}
 use Rattle.book_model.specs.Sums.{one_over, twice, alternating, lower, upper}
 use Rattle.book_model.proofs.Ring.{at, lit, ◌⊕◌, ◌⊖◌, ◌⊗◌, minus}
 use Rattle.book_model.proofs.Fractions.{le_refl, le_trans, at_most_true}
 use Rattle.book_model.proofs.Same.{same_refl, le_of_same, ge_of_same}
 use Rattle.book_model.proofs.Hulls.{true_at_most}
-use Rattle.book_model.proofs.Intervals.{within_trans, within_refl, negative_within, product_within, quotient_within, least_is, greatest_is}
+use Rattle.book_model.proofs.Intervals.{within_trans, within_refl, negative_within, product_within, quotient_within}
+use Rattle.book_model.proofs.Intervals.{least_is, greatest_is}
 use Rattle.book_model.proofs.Certificates.{zero_F, ◌≼◌, ◌≗◌, known, multiple, ◌⊞◌, ◌⊠◌, natural, le_by, same_given}
 use Rattle.book_model.proofs.Alternating.{size_same}
 use Rattle.book_model.specs.programs.Leading.{units_of_56}
@@ -22,7 +25,8 @@ use Rattle.book_model.proofs.Pi.{pi_at_least, pi_proper}
 use Rattle.book_model.proofs.ArcSeries.{InHalf, series_nests, series_proper, degrees_proper}
 use Rattle.encl_core.specs.Units.{at_64, IsWithinUnits}
 use Rattle.arc_series.specs.Kernel.{IsNumber, IsSquare, nested}
-use Rattle.encl_core.proofs.HighHalves.{unit, unit_nonneg, at_more, at_less, IsHigh, high_is, high_small, product_is, high_below, high_above}
+use Rattle.encl_core.proofs.HighHalves.{unit, unit_nonneg, at_more, at_less, IsHigh, high_is, high_small, product_is}
+use Rattle.encl_core.proofs.HighHalves.{high_below, high_above}
 use Rattle.encl_core.proofs.HighHalves.{count_nonneg}
 use Rattle.arc_series.proofs.KernelSteps.{count_whole, square_near, product_above, product_below}
 
@@ -40,7 +44,8 @@ alternating_form x (suc m) k t h =
     subst (λ z. plus z (opposite (alternating (λ j. t (suc j)) m)) ≈ times (power x (suc (double k)))
     (plus (one_over (double k)) (opposite (times (times x x) (nested (times x x) (suc (suc (double k))) m))))) (sym e)
     (same_given
-    (x ∷ power x (suc (double k)) ∷ one_over (double k) ∷ alternating (λ j. t (suc j)) m ∷ nested (times x x) (suc (suc (double k))) m ∷ [])
+    (x ∷ power x (suc (double k)) ∷ one_over (double k) ∷ alternating (λ j. t (suc j)) m ∷ nested (times x x)
+    (suc (suc (double k))) m ∷ [])
     ((at 3 ≗ (at 0 ⊗ (at 0 ⊗ at 1)) ⊗ at 4) ∷ [])
     (at 1 ⊗ at 2 ⊖ at 3) (at 1 ⊗ (at 2 ⊖ (at 0 ⊗ at 0) ⊗ at 4))
     ((0, lit (negsuc 0)) ∷ []) refl (i, tt))
@@ -65,7 +70,8 @@ left_out : (x : Fraction) → IsUpTo 1 2 x → twice (size (arctan_term x 29)) �
 left_out x w =
     let r = (arctan_rising x half w half_up_to (below_half x w.bound)).above 29 in
     rw (size_same (arctan_term x 29) ((arctan_halving x w).nonneg 29))
-    (le_trans _ _ _ (le_by (arctan_term x 29 ∷ arctan_term half 29 ∷ []) ((at 0 ≼ at 1) ∷ []) (lit (pos 2) ⊗ at 0) (lit (pos 2) ⊗ at 1) (natural 2 ⊠ known 0)
+    (le_trans _ _ _ (le_by (arctan_term x 29 ∷ arctan_term half 29 ∷ []) ((at 0 ≼ at 1) ∷ []) (lit (pos 2) ⊗ at 0)
+    (lit (pos 2) ⊗ at 1) (natural 2 ⊠ known 0)
     refl (r, tt)) at_half)
 
 -- ---- the series at a number
@@ -73,21 +79,25 @@ left_out x w =
 abbrev around : ℕ → Interval
 around s = between (at_64 (pos s -ℤ pos 4)) (at_64 (pos s +ℤ pos 6))
 
-endpoints_near : (q t s : ℕ) (x : Fraction) → IsUpTo 1 2 x → t ≤ 2 ^ 64 → IsHigh s q t → IsNumber q x → IsWithinUnits 4 t (nested (times x x) 0 28)
+endpoints_near : (q t s : ℕ) (x : Fraction) → IsUpTo 1 2 x → t ≤ 2 ^ 64 → IsHigh s q t → IsNumber q x
+    → IsWithinUnits 4 t (nested (times x x) 0 28)
     → arctan_at 28 x ⊆ around s
 unfolding lower upper power
 endpoints_near q t s x w l p g n =
-    let ρ = x ∷ nested (times x x) 0 28 ∷ alternating (arctan_term x) 28 ∷ size (arctan_term x 29) ∷ unit ∷ whole (pos s) ∷ [] in
+    let ρ = x ∷ nested (times x x) 0 28 ∷ alternating (arctan_term x) 28 ∷ size (arctan_term x 29) ∷ unit ∷ whole
+    (pos s) ∷ [] in
     let c = at 2 ≗ (at 0 ⊗ lit (pos 1)) ⊗ at 1 in
     let d = lit (pos 2) ⊗ at 3 ≼ lit (pos 2) ⊗ at 4 in
     record {
       endpoints = (
         le_trans _ _ _ (le_of_same (at_less (pos s) (pos 4)))
-            (le_by ρ (c ∷ ((at 5 ⊖ lit (pos 2)) ⊗ at 4 ≼ at 0 ⊗ at 1) ∷ d ∷ []) ((at 5 ⊖ lit (pos 4)) ⊗ at 4) (at 2 ⊖ lit (pos 2) ⊗ at 3)
+            (le_by ρ (c ∷ ((at 5 ⊖ lit (pos 2)) ⊗ at 4 ≼ at 0 ⊗ at 1) ∷ d ∷ []) ((at 5 ⊖ lit (pos 4)) ⊗ at 4)
+            (at 2 ⊖ lit (pos 2) ⊗ at 3)
             (known 1 ⊞ known 2 ⊞ multiple 0 (lit (negsuc 0))) refl
             (sum_form x, (product_above s q t x _ p g n, (left_out x w, tt)))),
         le_trans _ _ _
-            (le_by ρ (c ∷ (at 0 ⊗ at 1 ≼ (at 5 ⊕ lit (pos 4)) ⊗ at 4) ∷ d ∷ []) (at 2 ⊕ lit (pos 2) ⊗ at 3) ((at 5 ⊕ lit (pos 6)) ⊗ at 4)
+            (le_by ρ (c ∷ (at 0 ⊗ at 1 ≼ (at 5 ⊕ lit (pos 4)) ⊗ at 4) ∷ d ∷ []) (at 2 ⊕ lit (pos 2) ⊗ at 3)
+            ((at 5 ⊕ lit (pos 6)) ⊗ at 4)
             (known 1 ⊞ known 2 ⊞ multiple 0 (lit (pos 1))) refl
             (sum_form x, (product_below s q t x _ l p g n, (left_out x w, tt))))
             (ge_of_same (at_more (pos s) (pos 6))),
@@ -137,7 +147,10 @@ opposite_in : (q : ℕ) (x : Fraction) → IsNumber q (opposite x) → InHalf x
 unfolding opposite
 opposite_in q x g =
     let p = number_up_to q (opposite x) g in
-    record { above = record { cross = omega (arith, ints, g.small.cross) }; below = record { cross = omega (arith, ints, p.nonneg.cross) } }
+    record {
+      above = record { cross = omega (arith, ints, g.small.cross) };
+      below = record { cross = omega (arith, ints, p.nonneg.cross) };
+    }
 
 not_nonneg : (q : ℕ) (x : Fraction) → 1 ≤ q → at_64 (pos q) ≤F opposite x → zero_F ≤F x → ⊥
 unfolding opposite
@@ -150,11 +163,13 @@ below_zero q x l h = by_test (is_at_most zero_F x) refl
     by_test true e = absurd (not_nonneg q x l h (at_most_true zero_F x e))
     by_test false e = refl
 
-series_negative : (q : ℕ) (x : Fraction) → 1 ≤ q → at_64 (pos q) ≤F opposite x → arctan_series 28 x ≡ negative (arctan_at 28 (opposite x))
+series_negative : (q : ℕ) (x : Fraction) → 1 ≤ q → at_64 (pos q) ≤F opposite x
+    → arctan_series 28 x ≡ negative (arctan_at 28 (opposite x))
 unfolding arctan_series
 series_negative q x l h = rw (below_zero q x l h) refl
 
-series_mirrored : (n q w t s : ℕ) (x : Fraction) → 40 ≤ n → 1 ≤ q → IsComputed q w t s → IsNumber q (opposite x) → arctan_series n x ⊆ negative (around s)
+series_mirrored : (n q w t s : ℕ) (x : Fraction) → 40 ≤ n → 1 ≤ q → IsComputed q w t s → IsNumber q (opposite x)
+    → arctan_series n x ⊆ negative (around s)
 series_mirrored n q w t s x d l c g =
     let i = opposite_in q x g in
     within_trans ((series_nests x i.above i.below).within 28 n (omega (arith, d)))
@@ -176,7 +191,8 @@ at_58 n = record { num = n; below = 2 ^ 58 - 1 }
 abbrev pub radian : Interval
 radian = between (at_58 (pos 16514384080961256899)) (at_58 (pos 16514384080961256900))
 
-by_pi : quotient (only (whole (pos 180))) (between (at_72 14835751850141947581203) (at_72 14835751850141947581204)) ⊆ radian
+by_pi : quotient (only (whole (pos 180))) (between (at_72 14835751850141947581203) (at_72 14835751850141947581204))
+    ⊆ radian
 unfolding quotient reciprocal product least greatest smaller larger is_at_most times
 by_pi = record { endpoints = (record { cross = record { le = tt } }, record { cross = record { le = tt } }) }
 
@@ -202,11 +218,13 @@ at_58_more : (k : ℕ) → at_58 (pos (suc k)) ≈ times (plus (whole (pos k)) (
 unfolding fine times plus
 at_58_more k = record { cross = omega (arith, ints) }
 
-low_end : (lo : ℤ) (d : ℕ) → (lo *ℤ pos 4 +ℤ pos 4) ≤ℤ pos d → units_of_56 lo ≤F times (plus (whole (pos d)) (opposite (whole (pos 4)))) fine
+low_end : (lo : ℤ) (d : ℕ) → (lo *ℤ pos 4 +ℤ pos 4) ≤ℤ pos d
+    → units_of_56 lo ≤F times (plus (whole (pos d)) (opposite (whole (pos 4)))) fine
 unfolding fine times plus opposite
 low_end lo d h = record { cross = omega (arith, ints, h) }
 
-high_end : (hi : ℤ) (d : ℕ) → (pos d +ℤ pos 9) ≤ℤ (hi *ℤ pos 4) → times (plus (whole (pos d)) (whole (pos 9))) fine ≤F units_of_56 hi
+high_end : (hi : ℤ) (d : ℕ) → (pos d +ℤ pos 9) ≤ℤ (hi *ℤ pos 4) → times (plus (whole (pos d)) (whole (pos 9))) fine ≤F
+    units_of_56 hi
 unfolding fine times plus
 high_end hi d h = record { cross = omega (arith, ints, h) }
 
@@ -227,14 +245,18 @@ pub record IsCorner (s : ℕ) (S R : Fraction) : Type 0 where
 corner_nonneg : (r : Fraction) → at_58 (pos factor) ≤F r → zero_F ≤F r
 corner_nonneg r h = le_trans zero_F _ r (record { cross = record { le = tt } }) h
 
-corner_low : (s d : ℕ) (S R : Fraction) → IsHigh d s factor → IsCorner s S R → times (plus (whole (pos d)) (opposite (whole (pos 4)))) fine ≤F times S R
+corner_low : (s d : ℕ) (S R : Fraction) → IsHigh d s factor → IsCorner s S R
+    → times (plus (whole (pos d)) (opposite (whole (pos 4)))) fine ≤F times S R
 corner_low s d S R p k =
     le_by (S ∷ R ∷ whole (pos s) ∷ whole (pos factor) ∷ whole (pos d) ∷ whole (pos (s * factor)) ∷ unit ∷ fine ∷ [])
-    (((at 2 ⊖ lit (pos 4)) ⊗ at 6 ≼ at 0) ∷ (lit (pos 0) ≼ at 2 ⊗ at 6) ∷ (at 3 ⊗ at 7 ≼ at 1) ∷ (at 1 ≼ (at 3 ⊕ lit (pos 1)) ⊗ at 7) ∷ (lit (pos 0) ≼ at 1) ∷
+    (((at 2 ⊖ lit (pos 4)) ⊗ at 6 ≼ at 0) ∷ (lit (pos 0) ≼ at 2 ⊗ at 6) ∷ (at 3 ⊗ at 7 ≼ at 1)
+    ∷ (at 1 ≼ (at 3 ⊕ lit (pos 1)) ⊗ at 7) ∷ (lit (pos 0) ≼ at 1) ∷
     (lit (pos 0) ≼ at 6)
-    ∷ (lit (pos 0) ≼ at 7) ∷ (at 4 ≼ at 5 ⊗ at 6) ∷ (at 5 ≗ at 2 ⊗ at 3) ∷ ((at 3 ⊕ lit (pos 1)) ⊗ at 6 ≼ lit (pos 1)) ∷ [])
+    ∷ (lit (pos 0) ≼ at 7) ∷ (at 4 ≼ at 5 ⊗ at 6) ∷ (at 5 ≗ at 2 ⊗ at 3) ∷ ((at 3 ⊕ lit (pos 1)) ⊗ at 6 ≼ lit (pos 1))
+    ∷ [])
     ((at 4 ⊖ lit (pos 4)) ⊗ at 7) (at 0 ⊗ at 1)
-    (known 4 ⊠ known 0 ⊞ known 1 ⊠ known 2 ⊞ known 6 ⊠ known 7 ⊞ multiple 8 (at 6 ⊗ at 7) ⊞ natural 4 ⊠ known 5 ⊠ known 3 ⊞ natural 4 ⊠ known 6 ⊠ known 9) refl (
+    (known 4 ⊠ known 0 ⊞ known 1 ⊠ known 2 ⊞ known 6 ⊠ known 7 ⊞ multiple 8 (at 6 ⊗ at 7) ⊞ natural 4 ⊠ known 5 ⊠ known
+    3 ⊞ natural 4 ⊠ known 6 ⊠ known 9) refl (
       le_trans _ _ _ (ge_of_same (at_less (pos s) (pos 4))) k.low,
       (
         count_nonneg s,
@@ -242,20 +264,30 @@ corner_low s d S R p k =
           le_trans _ _ _ (ge_of_same (at_58_is factor)) k.from,
           (
             le_trans _ _ _ k.to (le_of_same (at_58_more factor)),
-            (corner_nonneg R k.from, (unit_nonneg, (fine_nonneg, (high_below d (s * factor) p.not_above, (product_is s factor, (factor_small, tt)))))),
+            (
+              corner_nonneg R k.from,
+              (
+                unit_nonneg,
+                (fine_nonneg, (high_below d (s * factor) p.not_above, (product_is s factor, (factor_small, tt)))),
+              ),
+            ),
           ),
         ),
       ),
     )
 
-corner_high : (s d : ℕ) (S R : Fraction) → s ≤ 2 ^ 64 → IsHigh d s factor → IsCorner s S R → times S R ≤F times (plus (whole (pos d)) (whole (pos 9))) fine
+corner_high : (s d : ℕ) (S R : Fraction) → s ≤ 2 ^ 64 → IsHigh d s factor → IsCorner s S R
+    → times S R ≤F times (plus (whole (pos d)) (whole (pos 9))) fine
 corner_high s d S R l p k =
     le_by (S ∷ R ∷ whole (pos s) ∷ whole (pos factor) ∷ whole (pos d) ∷ whole (pos (s * factor)) ∷ unit ∷ fine ∷ [])
-    ((at 0 ≼ (at 2 ⊕ lit (pos 6)) ⊗ at 6) ∷ (lit (pos 0) ≼ at 2 ⊗ at 6) ∷ (at 1 ≼ (at 3 ⊕ lit (pos 1)) ⊗ at 7) ∷ (lit (pos 0) ≼ at 1) ∷ (lit (pos 0) ≼ at 6)
-    ∷ (lit (pos 0) ≼ at 7) ∷ (at 5 ⊗ at 6 ≼ at 4 ⊕ lit (pos 1)) ∷ (at 5 ≗ at 2 ⊗ at 3) ∷ ((at 3 ⊕ lit (pos 1)) ⊗ at 6 ≼ lit (pos 1)) ∷
+    ((at 0 ≼ (at 2 ⊕ lit (pos 6)) ⊗ at 6) ∷ (lit (pos 0) ≼ at 2 ⊗ at 6) ∷ (at 1 ≼ (at 3 ⊕ lit (pos 1)) ⊗ at 7)
+    ∷ (lit (pos 0) ≼ at 1) ∷ (lit (pos 0) ≼ at 6)
+    ∷ (lit (pos 0) ≼ at 7) ∷ (at 5 ⊗ at 6 ≼ at 4 ⊕ lit (pos 1)) ∷ (at 5 ≗ at 2 ⊗ at 3)
+    ∷ ((at 3 ⊕ lit (pos 1)) ⊗ at 6 ≼ lit (pos 1)) ∷
     (at 2 ⊗ at 6 ≼ lit (pos 1)) ∷ [])
     (at 0 ⊗ at 1) ((at 4 ⊕ lit (pos 9)) ⊗ at 7)
-    (known 3 ⊠ known 0 ⊞ known 1 ⊠ known 2 ⊞ known 5 ⊠ known 6 ⊞ multiple 7 (lit (negsuc 0) ⊗ (at 6 ⊗ at 7)) ⊞ known 5 ⊠ known 9 ⊞ natural 6 ⊠ known 4 ⊠ known 2
+    (known 3 ⊠ known 0 ⊞ known 1 ⊠ known 2 ⊞ known 5 ⊠ known 6 ⊞ multiple 7 (lit (negsuc 0) ⊗ (at 6 ⊗ at 7)) ⊞ known 5 ⊠
+    known 9 ⊞ natural 6 ⊠ known 4 ⊠ known 2
     ⊞ natural 6 ⊠ known 5 ⊠ known 8 ⊞ known 5) refl (
       le_trans _ _ _ k.high (le_of_same (at_more (pos s) (pos 6))),
       (
@@ -264,7 +296,13 @@ corner_high s d S R l p k =
           le_trans _ _ _ k.to (le_of_same (at_58_more factor)),
           (
             corner_nonneg R k.from,
-            (unit_nonneg, (fine_nonneg, (high_above d (s * factor) p.close, (product_is s factor, (factor_small, (count_whole s l, tt)))))),
+            (
+              unit_nonneg,
+              (
+                fine_nonneg,
+                (high_above d (s * factor) p.close, (product_is s factor, (factor_small, (count_whole s l, tt)))),
+              ),
+            ),
           ),
         ),
       ),
@@ -276,7 +314,8 @@ pub record AreDegrees (s d : ℕ) (lo hi : ℤ) : Type 0 where
   pub low : (lo *ℤ pos 4 +ℤ pos 4) ≤ℤ pos d
   pub high : (pos d +ℤ pos 9) ≤ℤ (hi *ℤ pos 4)
 
-corner : (s d : ℕ) (lo hi : ℤ) (S R : Fraction) → s ≤ 2 ^ 64 → AreDegrees s d lo hi → IsCorner s S R → (units_of_56 lo ≤F times S R)
+corner : (s d : ℕ) (lo hi : ℤ) (S R : Fraction) → s ≤ 2 ^ 64 → AreDegrees s d lo hi → IsCorner s S R
+    → (units_of_56 lo ≤F times S R)
     × (times S R ≤F units_of_56 hi)
 corner s d lo hi S R l a k =
     let p = high_is d s factor a.degrees in (
@@ -292,9 +331,11 @@ opposite_corner : (s d : ℕ) (lo hi : ℤ) (S R : Fraction) → s ≤ 2 ^ 64 �
     → (units_of_56 (neg_ℤ hi) ≤F times (opposite S) R) × (times (opposite S) R ≤F units_of_56 (neg_ℤ lo))
 opposite_corner s d lo hi S R l a k =
     let b = corner s d lo hi S R l a k in (
-      le_trans _ _ _ (le_of_same (neg_is hi)) (le_by (S ∷ R ∷ units_of_56 hi ∷ []) ((at 0 ⊗ at 1 ≼ at 2) ∷ []) (minus (at 2)) (minus (at 0) ⊗ at 1) (known 0)
+      le_trans _ _ _ (le_of_same (neg_is hi)) (le_by (S ∷ R ∷ units_of_56 hi ∷ []) ((at 0 ⊗ at 1 ≼ at 2) ∷ [])
+          (minus (at 2)) (minus (at 0) ⊗ at 1) (known 0)
           refl (b.1, tt)),
-      le_trans _ _ _ (le_by (S ∷ R ∷ units_of_56 lo ∷ []) ((at 2 ≼ at 0 ⊗ at 1) ∷ []) (minus (at 0) ⊗ at 1) (minus (at 2)) (known 0) refl (b.0, tt))
+      le_trans _ _ _ (le_by (S ∷ R ∷ units_of_56 lo ∷ []) ((at 2 ≼ at 0 ⊗ at 1) ∷ []) (minus (at 0) ⊗ at 1)
+          (minus (at 2)) (known 0) refl (b.0, tt))
           (ge_of_same (neg_is lo)),
     )
 
@@ -307,7 +348,8 @@ fine_mono = record { cross = record { le = tt } }
 four : (s : ℕ)
     → IsCorner s (at_64 (pos s -ℤ pos 4)) (at_58 (pos factor))
     × (IsCorner s (at_64 (pos s -ℤ pos 4)) (at_58 (pos (suc factor)))
-    × (IsCorner s (at_64 (pos s +ℤ pos 6)) (at_58 (pos factor)) × IsCorner s (at_64 (pos s +ℤ pos 6)) (at_58 (pos (suc factor)))))
+    × (IsCorner s (at_64 (pos s +ℤ pos 6)) (at_58 (pos factor)) × IsCorner s (at_64 (pos s +ℤ pos 6))
+    (at_58 (pos (suc factor)))))
 four s =
     let m = between_mono (pos s -ℤ pos 4) (pos s +ℤ pos 6) (omega (arith, ints)) in
     let a = le_refl (at_64 (pos s -ℤ pos 4)) in
@@ -326,11 +368,15 @@ four s =
       },
       (
         record { low = a; high = m; from = fine_mono; to = d },
-        (record { low = m; high = b; from = c; to = fine_mono }, record { low = m; high = b; from = fine_mono; to = d }),
+        (
+          record { low = m; high = b; from = c; to = fine_mono },
+          record { low = m; high = b; from = fine_mono; to = d },
+        ),
       ),
     )
 
-product_held : (s d : ℕ) (lo hi : ℤ) → s ≤ 2 ^ 64 → AreDegrees s d lo hi → product (around s) radian ⊆ between (units_of_56 lo) (units_of_56 hi)
+product_held : (s d : ℕ) (lo hi : ℤ) → s ≤ 2 ^ 64 → AreDegrees s d lo hi
+    → product (around s) radian ⊆ between (units_of_56 lo) (units_of_56 hi)
 unfolding product
 product_held s d lo hi l a =
     let k = four s in
@@ -355,16 +401,20 @@ opposite_product_held s d lo hi l a =
 radians_small : (q w t s : ℕ) → IsComputed q w t s → s ≤ 2 ^ 64
 radians_small q w t s c = omega (arith, high_small s q t (high_is s q t c.radians) (omega (arith, c.small)), c.below)
 
-pub near_held : (n q w t s d : ℕ) (lo hi : ℤ) (x : Fraction) → 40 ≤ n → IsComputed q w t s → AreDegrees s d lo hi → IsNumber q x
+pub near_held : (n q w t s d : ℕ) (lo hi : ℤ) (x : Fraction) → 40 ≤ n → IsComputed q w t s → AreDegrees s d lo hi
+    → IsNumber q x
     → arc_near n x ⊆ between (units_of_56 lo) (units_of_56 hi)
 unfolding arc_near
 near_held n q w t s d lo hi x l c a g =
-    within_trans (product_within (series_proper n x (number_in q x g)) (degrees_proper n) (series_held n q w t s x l c g) (radian_near n l))
+    within_trans (product_within (series_proper n x (number_in q x g)) (degrees_proper n)
+    (series_held n q w t s x l c g) (radian_near n l))
     (product_held s d lo hi (radians_small q w t s c) a)
 
-pub near_mirrored : (n q w t s d : ℕ) (lo hi : ℤ) (x : Fraction) → 40 ≤ n → 1 ≤ q → IsComputed q w t s → AreDegrees s d lo hi → IsNumber q (opposite x)
+pub near_mirrored : (n q w t s d : ℕ) (lo hi : ℤ) (x : Fraction) → 40 ≤ n → 1 ≤ q → IsComputed q w t s
+    → AreDegrees s d lo hi → IsNumber q (opposite x)
     → arc_near n x ⊆ between (units_of_56 (neg_ℤ hi)) (units_of_56 (neg_ℤ lo))
 unfolding arc_near
 near_mirrored n q w t s d lo hi x l m c a g =
-    within_trans (product_within (series_proper n x (opposite_in q x g)) (degrees_proper n) (series_mirrored n q w t s x l m c g) (radian_near n l))
+    within_trans (product_within (series_proper n x (opposite_in q x g)) (degrees_proper n)
+    (series_mirrored n q w t s x l m c g) (radian_near n l))
     (opposite_product_held s d lo hi (radians_small q w t s c) a)

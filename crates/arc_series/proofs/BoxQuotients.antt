@@ -1,7 +1,8 @@
--- How wide the quotient of a negative number by a positive one is, and at which rate its arctangent moves: in a box of sides that are at
--- most v wide.
+-- How wide the quotient of a negative number by a positive one is, and at which rate its arctangent moves: in a box of
+-- sides that are at most v wide.
 use Rattle.std.specs.Prelude.{max, true, nat_lt}
-use Rattle.std.proofs.Common.{◌≡◌, ◌≤◌, ◌+◌, ◌-◌, ◌*◌, ◌/◌, ◌^◌, arith, ℕ, zero, suc, ℤ, pos, negsuc, ◌+ℤ◌, ◌-ℤ◌, ◌*ℤ◌, ◌≤ℤ◌, ◌<ℤ◌}
+use Rattle.std.proofs.Common.{◌≡◌, ◌≤◌, ◌+◌, ◌-◌, ◌*◌, ◌/◌, ◌^◌, arith, ℕ, zero, suc, ℤ, pos, negsuc, ◌+ℤ◌, ◌-ℤ◌, ◌*ℤ◌}
+use Rattle.std.proofs.Common.{◌≤ℤ◌, ◌<ℤ◌}
 use Rattle.std.specs.Int.{int_max}
 use Rattle.std.proofs.lemmas.Int.{ints, clamps}
 use Rattle.std.proofs.lemmas.Bool.{lt-ltb}
@@ -13,7 +14,8 @@ use Rattle.book_model.proofs.Fractions.{le_trans, plus_mono, le_refl}
 use Rattle.book_model.proofs.IntLaws.{add_mul}
 use Rattle.book_model.proofs.Floors.{floor_quotient_is, floor_quotient_mono}
 use Rattle.book_model.specs.programs.Widths.{IsWithin}
-use Rattle.book_model.specs.numbers.Bounds.{bounded, IsNarrow, at_32, breadth, ceil_div, ceil_quotient, floor_at_32, ceil_at_32, limits_at, quotient_bound}
+use Rattle.book_model.specs.numbers.Bounds.{bounded, IsNarrow, at_32, breadth, ceil_div, ceil_quotient, floor_at_32}
+use Rattle.book_model.specs.numbers.Bounds.{ceil_at_32, limits_at, quotient_bound}
 use Rattle.book_model.specs.numbers.Bounds.{least_quotient}
 use Rattle.encl_core.proofs.Measuring.{looser, remeasured}
 use Rattle.arc_series.specs.Widths.{IsRateFrom, slow_width}
@@ -41,10 +43,12 @@ pub record IsTight (low high : ℤ) (v : ℕ) (a b : ℤ) : Type 0 where
   pub near : ((b -ℤ a) *ℤ pos (2 ^ 32)) ≤ℤ pos (v + 2 * 2 ^ 32)
 
 floor_under : (f : Fraction) → at_32 (floor_at_32 f) ≤F f
-floor_under f = let i = floor_quotient_is (f.num *ℤ pos (2 ^ 32)) f.below in record { cross = omega (arith, ints, i.not_above) }
+floor_under f = let i = floor_quotient_is (f.num *ℤ pos (2 ^ 32)) f.below in
+    record { cross = omega (arith, ints, i.not_above) }
 
 floor_over : (f : Fraction) → f ≤F at_32 (floor_at_32 f +ℤ pos 1)
-floor_over f = let i = floor_quotient_is (f.num *ℤ pos (2 ^ 32)) f.below in record { cross = by_close (floor_at_32 f) i.close }
+floor_over f = let i = floor_quotient_is (f.num *ℤ pos (2 ^ 32)) f.below in
+    record { cross = by_close (floor_at_32 f) i.close }
   where
     by_close : (q : ℤ) → (f.num *ℤ pos (2 ^ 32)) <ℤ (q *ℤ pos (suc f.below) +ℤ pos (suc f.below))
         → (f.num *ℤ pos (2 ^ 32)) ≤ℤ ((q +ℤ pos 1) *ℤ pos (suc f.below))
@@ -55,7 +59,8 @@ ceil_over f =
     let i = floor_quotient_is (neg_ℤ (f.num *ℤ pos (2 ^ 32))) f.below in record
     { cross = by_below (floor_quotient (neg_ℤ (f.num *ℤ pos (2 ^ 32))) f.below) i.not_above }
   where
-    by_below : (q : ℤ) → (q *ℤ pos (suc f.below)) ≤ℤ neg_ℤ (f.num *ℤ pos (2 ^ 32)) → (f.num *ℤ pos (2 ^ 32)) ≤ℤ (neg_ℤ q *ℤ pos (suc f.below))
+    by_below : (q : ℤ) → (q *ℤ pos (suc f.below)) ≤ℤ neg_ℤ (f.num *ℤ pos (2 ^ 32))
+        → (f.num *ℤ pos (2 ^ 32)) ≤ℤ (neg_ℤ q *ℤ pos (suc f.below))
     by_below (pos zero) h = omega (arith, ints, h)
     by_below (pos (suc q)) h = omega (arith, ints, h)
     by_below (negsuc q) h = omega (arith, ints, h)
@@ -69,9 +74,11 @@ ceil_under f =
         → ((neg_ℤ q -ℤ pos 1) *ℤ pos (suc f.below)) ≤ℤ (f.num *ℤ pos (2 ^ 32))
     by_close (pos zero) h = omega (arith, ints, h)
     by_close (pos (suc q)) h = omega (arith, ints, h)
-    by_close (negsuc q) h = let e : (neg_ℤ (negsuc q) -ℤ pos 1) ≡ pos q = omega (arith, ints) in rw e (omega (arith, ints, h))
+    by_close (negsuc q) h = let e : (neg_ℤ (negsuc q) -ℤ pos 1) ≡ pos q = omega (arith, ints) in
+        rw e (omega (arith, ints, h))
 
-near_32 : (a b : ℤ) (v : ℕ) → at_32 (b -ℤ pos 1) ≤F plus (at_32 (a +ℤ pos 1)) (breadth 0 0 v) → ((b -ℤ a) *ℤ pos (2 ^ 32)) ≤ℤ pos (v + 2 * 2 ^ 32)
+near_32 : (a b : ℤ) (v : ℕ) → at_32 (b -ℤ pos 1) ≤F plus (at_32 (a +ℤ pos 1)) (breadth 0 0 v)
+    → ((b -ℤ a) *ℤ pos (2 ^ 32)) ≤ℤ pos (v + 2 * 2 ^ 32)
 unfolding plus
 near_32 a b v h = omega (arith, ints, h.cross)
 
@@ -84,8 +91,10 @@ tight_is low high v everything h = absurd h.kept
 tight_is low high v (between x y) h = record {
   from = floor_from (x.num *ℤ pos (2 ^ 32)) low x.below (omega (arith, ints, h.kept.above.cross));
   order = order_32 _ _ (le_trans _ x _ (floor_under x) (le_trans _ y _ h.kept.ordered (ceil_over y)));
-  to = by_opposite (floor_from (neg_ℤ (y.num *ℤ pos (2 ^ 32))) (neg_ℤ high) y.below (opposite_cross high (y.num *ℤ pos (2 ^ 32)) y.below h.kept.below.cross));
-  near = near_32 (floor_at_32 x) (ceil_at_32 y) v (le_trans _ y _ (ceil_under y) (le_trans _ _ _ h.kept.close (plus_mono _ _ _ _ (floor_over x) (le_refl _))));
+  to = by_opposite (floor_from (neg_ℤ (y.num *ℤ pos (2 ^ 32))) (neg_ℤ high) y.below
+      (opposite_cross high (y.num *ℤ pos (2 ^ 32)) y.below h.kept.below.cross));
+  near = near_32 (floor_at_32 x) (ceil_at_32 y) v
+      (le_trans _ y _ (ceil_under y) (le_trans _ _ _ h.kept.close (plus_mono _ _ _ _ (floor_over x) (le_refl _))));
 }
   where
     by_opposite : {q : ℤ} → neg_ℤ high ≤ℤ q → neg_ℤ q ≤ℤ high
@@ -99,7 +108,15 @@ tight_is low high v (between x y) h = record {
 pub tight_kept : (low high : ℤ) (v : ℕ) (i : Interval) → IsWithin low high v i → IsWithin (low_of i) (high_of i) v i
 unfolding IsNarrow
 tight_kept low high v everything h = absurd h.kept
-tight_kept low high v (between x y) h = record { kept = record { ordered = h.kept.ordered; above = floor_under x; below = ceil_over y; close = h.kept.close } }
+tight_kept low high v (between x y) h =
+    record {
+      kept = record {
+        ordered = h.kept.ordered;
+        above = floor_under x;
+        below = ceil_over y;
+        close = h.kept.close;
+      };
+    }
 
 -- ---- the rate times the width
 -- numbers in units of 2^-32: the sizes of a box, x from p to n and y from g to h, and the least size q of the quotient
@@ -121,7 +138,8 @@ box_sum : (n p g h v q : ℕ) → IsBox n p g h v q → (2 ^ 32 * (g + n)) * 204
 box_sum n p g h v q b = by_gap (h - g) (omega (arith, b.y_order)) (omega (arith, b.y_near, b.y_order, b.small))
   where
     q_most : q ≤ 2 ^ 37
-    q_most = let m = mul-le-mul_left q b.y_least in let k = mul-le-mul_left q b.y_order in omega (arith, m, k, b.least, b.x_less)
+    q_most = let m = mul-le-mul_left q b.y_least in let k = mul-le-mul_left q b.y_order in
+        omega (arith, m, k, b.least, b.x_less)
 
     by_gap : (e : ℕ) → h ≡ g + e → e ≤ 4098 → (2 ^ 32 * (g + n)) * 2047 ≤ ((2 ^ 32 + q) * g) * 2048
     by_gap e f l =
@@ -129,16 +147,19 @@ box_sum n p g h v q b = by_gap (h - g) (omega (arith, b.y_order)) (omega (arith,
         (arith, k, c, l, b.x_near, b.small, b.x_least, b.y_least, b.y_order, b.y_most)
 
 -- the rates above b are enough, the widths above a too
-box_product : (m r u t a b v : ℕ) → 9 * 2 ^ 28 ≤ m → (2 ^ 32 * m) * 2047 ≤ r * 2048 → u * t ≡ r * r → a * u ≤ v * m * 2 ^ 32 → b * t ≤ 9 * 2 ^ 122
+box_product : (m r u t a b v : ℕ) → 9 * 2 ^ 28 ≤ m → (2 ^ 32 * m) * 2047 ≤ r * 2048 → u * t ≡ r * r
+    → a * u ≤ v * m * 2 ^ 32 → b * t ≤ 9 * 2 ^ 122
     → a * b * 2047 * 2047 ≤ v * 2 ^ 62 * 2048 * 2048
 box_product m r u t a b v hm hr e ha hb =
     let k : a * b * (u * t) ≤ v * m * 2 ^ 32 * (9 * 2 ^ 122) = omega (arith, mul-le-mul ha hb) in
     let s = mul-le-mul hr hr in
     let l = mul-le-mul_left (a * b) s in
     let o = mul-le-mul_left (a * b * m) hm in
-    le_of_mul-le-mul_right {k = m} (by_size (a * b) (m * m) (r * r) (rw e at k) (omega (arith, l)) (omega (arith, o))) (omega (arith, hm))
+    le_of_mul-le-mul_right {k = m} (by_size (a * b) (m * m) (r * r) (rw e at k) (omega (arith, l)) (omega (arith, o)))
+    (omega (arith, hm))
   where
-    by_size : (c mm rr : ℕ) → c * rr ≤ v * m * 2 ^ 32 * (9 * 2 ^ 122) → c * mm * 2 ^ 64 * 2047 * 2047 ≤ c * rr * 2048 * 2048 → c * m * (9 * 2 ^ 28) ≤ c * mm
+    by_size : (c mm rr : ℕ) → c * rr ≤ v * m * 2 ^ 32 * (9 * 2 ^ 122)
+        → c * mm * 2 ^ 64 * 2047 * 2047 ≤ c * rr * 2048 * 2048 → c * m * (9 * 2 ^ 28) ≤ c * mm
         → (c * 2047 * 2047) * m ≤ (v * 2 ^ 62 * 2048 * 2048) * m
     by_size c mm rr x y z = omega (arith, x, y, z)
 
@@ -172,46 +193,56 @@ ceil_less x d l = by_quotient (ceil_div x (d - 1)) (ceil_below x (d - 1))
     by_quotient : (c : ℕ) → c * suc (d - 1) ≤ x + suc (d - 1) → (c - 1) * d ≤ x
     by_quotient c h = let e : suc (d - 1) ≡ d = omega (arith, l) in less_one c d x (rw e at h)
 
-fitting : (v a b c s : ℕ) → a * b * 2047 * 2047 ≤ v * 2 ^ 62 * 2048 * 2048 → a * 2 ^ 56 ≤ v * 2 ^ 66 → b * 2 ^ 64 ≤ 9 * 2 ^ 122 → v ≤ 2 ^ 44 → c ≤ suc a
+fitting : (v a b c s : ℕ) → a * b * 2047 * 2047 ≤ v * 2 ^ 62 * 2048 * 2048 → a * 2 ^ 56 ≤ v * 2 ^ 66
+    → b * 2 ^ 64 ≤ 9 * 2 ^ 122 → v ≤ 2 ^ 44 → c ≤ suc a
     → s ≤ suc b → slow_width s (c + 2 * 2 ^ 8) + 2 ^ 9 ≤ 230 * v + 2 ^ 20
-fitting v a b c s x y z l f g = by_product ((c + 2 * 2 ^ 8) * s) (ceil_below ((c + 2 * 2 ^ 8) * s * 573) (10 * 2 ^ 60 - 1)) (mul-le-mul (by_sum f) g)
+fitting v a b c s x y z l f g = by_product ((c + 2 * 2 ^ 8) * s)
+    (ceil_below ((c + 2 * 2 ^ 8) * s * 573) (10 * 2 ^ 60 - 1)) (mul-le-mul (by_sum f) g)
   where
     by_sum : c ≤ suc a → c + 2 * 2 ^ 8 ≤ a + 513
     by_sum h = omega (arith, h)
 
-    by_product : (k : ℕ) → ceil_div (k * 573) (10 * 2 ^ 60 - 1) * suc (10 * 2 ^ 60 - 1) ≤ k * 573 + suc (10 * 2 ^ 60 - 1) → k ≤ (a + 513) * suc b
+    by_product : (k : ℕ) → ceil_div (k * 573) (10 * 2 ^ 60 - 1) * suc (10 * 2 ^ 60 - 1) ≤ k * 573 + suc
+        (10 * 2 ^ 60 - 1) → k ≤ (a + 513) * suc b
         → ceil_div (k * 573) (10 * 2 ^ 60 - 1) + 58 * 2 ^ 8 + 2 ^ 9 ≤ 230 * v + 2 ^ 20
     by_product k i j = by_quotient (ceil_div (k * 573) (10 * 2 ^ 60 - 1)) i j
       where
-        by_quotient : (q : ℕ) → q * (10 * 2 ^ 60) ≤ k * 573 + 10 * 2 ^ 60 → k ≤ (a + 513) * suc b → q + 58 * 2 ^ 8 + 2 ^ 9 ≤ 230 * v + 2 ^ 20
+        by_quotient : (q : ℕ) → q * (10 * 2 ^ 60) ≤ k * 573 + 10 * 2 ^ 60 → k ≤ (a + 513) * suc b
+            → q + 58 * 2 ^ 8 + 2 ^ 9 ≤ 230 * v + 2 ^ 20
         by_quotient q i j = omega (arith, i, j, x, y, z, l)
 
-box_fits : (n p g h v q : ℕ) → IsBox n p (suc g) h v q → slow_width (rate_from q) (box_width n g v) + 2 ^ 9 ≤ 230 * v + 2 ^ 20
+box_fits : (n p g h v q : ℕ) → IsBox n p (suc g) h v q → slow_width (rate_from q) (box_width n g v) + 2 ^ 9 ≤ 230 * v
+    + 2 ^ 20
 box_fits n p g h v q b =
     let u = mul-le-mul b.y_least b.y_least in
     let ha = ceil_less ((v * suc g + n * v) * 2 ^ 32) (suc g * suc g) (omega (arith, u)) in
     let hb = ceil_less (9 * 2 ^ 122) ((2 ^ 32 + q) * (2 ^ 32 + q)) (omega arith) in
     by_less (ceil_div ((v * suc g + n * v) * 2 ^ 32) (suc g * suc g - 1)) (rate_from q) (omega (arith, ha)) hb u
   where
-    by_less : (c s : ℕ) → (c - 1) * (suc g * suc g) ≤ v * (suc g + n) * 2 ^ 32 → (s - 1) * ((2 ^ 32 + q) * (2 ^ 32 + q)) ≤ 9 * 2 ^ 122
+    by_less : (c s : ℕ) → (c - 1) * (suc g * suc g) ≤ v * (suc g + n) * 2 ^ 32
+        → (s - 1) * ((2 ^ 32 + q) * (2 ^ 32 + q)) ≤ 9 * 2 ^ 122
         → 2 ^ 28 * 2 ^ 28 ≤ suc g * suc g → slow_width s (c + 2 * 2 ^ 8) + 2 ^ 9 ≤ 230 * v + 2 ^ 20
     by_less c s ha hb u =
         let m : suc g + n ≤ 2 ^ 34 = omega (arith, b.x_most, b.y_most, b.y_order) in
         let t : 2 ^ 64 ≤ (2 ^ 32 + q) * (2 ^ 32 + q) = omega arith in
         fitting v (c - 1) (s - 1) c s
-        (box_product (suc g + n) ((2 ^ 32 + q) * suc g) (suc g * suc g) ((2 ^ 32 + q) * (2 ^ 32 + q)) (c - 1) (s - 1) v (omega (arith, b.x_least, b.y_least))
+        (box_product (suc g + n) ((2 ^ 32 + q) * suc g) (suc g * suc g) ((2 ^ 32 + q) * (2 ^ 32 + q)) (c - 1) (s - 1) v
+        (omega (arith, b.x_least, b.y_least))
         (box_sum n p (suc g) h v q b) (squares (suc g) (2 ^ 32 + q)) ha hb)
-        (by_least (c - 1) ha (mul-le-mul_left (c - 1) u) (mul-le-mul_left v m)) (by_most (s - 1) hb (mul-le-mul_left (s - 1) t)) b.small (omega arith)
+        (by_least (c - 1) ha (mul-le-mul_left (c - 1) u) (mul-le-mul_left v m))
+        (by_most (s - 1) hb (mul-le-mul_left (s - 1) t)) b.small (omega arith)
         (omega arith)
       where
         squares : (x y : ℕ) → (x * x) * (y * y) ≡ (y * x) * (y * x)
         squares x y = omega arith
 
-        by_least : (a : ℕ) → a * (suc g * suc g) ≤ v * (suc g + n) * 2 ^ 32 → a * (2 ^ 28 * 2 ^ 28) ≤ a * (suc g * suc g) → v * (suc g + n) ≤ v * 2 ^ 34
+        by_least : (a : ℕ) → a * (suc g * suc g) ≤ v * (suc g + n) * 2 ^ 32
+            → a * (2 ^ 28 * 2 ^ 28) ≤ a * (suc g * suc g) → v * (suc g + n) ≤ v * 2 ^ 34
             → a * 2 ^ 56 ≤ v * 2 ^ 66
         by_least a x y z = omega (arith, x, y, z)
 
-        by_most : (e : ℕ) → e * ((2 ^ 32 + q) * (2 ^ 32 + q)) ≤ 9 * 2 ^ 122 → e * 2 ^ 64 ≤ e * ((2 ^ 32 + q) * (2 ^ 32 + q)) → e * 2 ^ 64 ≤ 9 * 2 ^ 122
+        by_most : (e : ℕ) → e * ((2 ^ 32 + q) * (2 ^ 32 + q)) ≤ 9 * 2 ^ 122
+            → e * 2 ^ 64 ≤ e * ((2 ^ 32 + q) * (2 ^ 32 + q)) → e * 2 ^ 64 ≤ 9 * 2 ^ 122
         by_most e x y = omega (arith, x, y)
 
 -- ---- the quotient
@@ -234,16 +265,19 @@ pub record IsCornered (v : ℕ) (i : Interval) : Type 0 where
   pub kept : IsWithin low (neg_ℤ (pos least)) width i
   pub fits : slow_width rate width + 2 ^ 9 ≤ 230 * v + 2 ^ 20
 
-cornered_sizes : (n p g h v : ℕ) (i : Interval) → suc n ≤ 2 ^ 33 → suc p ≤ suc n → 2 ^ 31 ≤ suc p → suc n * 2 ^ 32 ≤ suc p * 2 ^ 32 + v + 2 * 2 ^ 32
+cornered_sizes : (n p g h v : ℕ) (i : Interval) → suc n ≤ 2 ^ 33 → suc p ≤ suc n → 2 ^ 31 ≤ suc p
+    → suc n * 2 ^ 32 ≤ suc p * 2 ^ 32 + v + 2 * 2 ^ 32
     → 2 ^ 28 ≤ suc g → suc g ≤ suc h → suc h ≤ 2 ^ 33 → suc h * 2 ^ 32 ≤ suc g * 2 ^ 32 + v + 2 * 2 ^ 32 → v ≤ 2 ^ 44
-    → IsNarrow 0 (quotient_bound (limits_at 56) (bounded (negsuc n) (negsuc p) 0 v) (bounded (pos (suc g)) (pos (suc h)) 0 v)) i → IsCornered v i
+    → IsNarrow 0 (quotient_bound (limits_at 56) (bounded (negsuc n) (negsuc p) 0 v)
+    (bounded (pos (suc g)) (pos (suc h)) 0 v)) i → IsCornered v i
 unfolding quotient_bound
 cornered_sizes n p g h v i nm pn pl nn gl gh hm hn l k =
     let q : ℕ = (suc p * 2 ^ 32) / suc h in
     let ea : max (suc n) (suc p) ≡ suc n = omega (arith, pn) in
     let eb : max (suc g) (suc h) ≡ suc h = omega (arith, gh) in
     let eh : suc h - 1 ≡ h = omega arith in
-    let t1 : nat_lt (ceil_div (suc n * 2 ^ 32) g) (2 ^ 100) ≡ true = lt-ltb _ _ (omega (arith, ceil_below (suc n * 2 ^ 32) g, nm, gh, hm)) in
+    let t1 : nat_lt (ceil_div (suc n * 2 ^ 32) g) (2 ^ 100) ≡ true =
+    lt-ltb _ _ (omega (arith, ceil_below (suc n * 2 ^ 32) g, nm, gh, hm)) in
     let t2 : nat_lt (suc h) (2 ^ 46) ≡ true = lt-ltb _ _ (omega (arith, hm)) in
     let lq : q * suc h ≤ suc p * 2 ^ 32 = omega arith in
     let lg : q * suc g ≤ suc p * 2 ^ 32 = omega (arith, lq, mul-le-mul_left q gh) in
@@ -273,16 +307,22 @@ cornered_sizes n p g h v i nm pn pl nn gl gh hm hn l k =
       kept =
           looser _ _ _ _ (box_width (suc n) g v) (box_width (suc n) g v) i (omega (arith, ints))
           (greatest_below _ _ _ (quotient_below p g q lg) (quotient_below p h q lq)) (omega arith)
-          (record { kept = remeasured _ _ 0 _ (box_width (suc n) g v) 0 0 (box_width (suc n) g v) i (omega arith) (rw (ea, eb, eh, t1, t2) at k) });
+          (record {
+            kept = remeasured _ _ 0 _ (box_width (suc n) g v) 0 0 (box_width (suc n) g v) i (omega arith)
+                (rw (ea, eb, eh, t1, t2) at k);
+          });
       fits = box_fits (suc n) (suc p) g (suc h) v q b;
     }
 
-pub cornered : (a b c d : ℤ) (v : ℕ) (i : Interval) → v ≤ 2 ^ 44 → IsTight (neg_ℤ (pos (2 ^ 33))) (neg_ℤ (pos (2 ^ 31))) v a b
+pub cornered : (a b c d : ℤ) (v : ℕ) (i : Interval) → v ≤ 2 ^ 44 → IsTight (neg_ℤ (pos (2 ^ 33))) (neg_ℤ (pos (2 ^ 31)))
+    v a b
     → IsTight (pos (2 ^ 28)) (pos (2 ^ 33)) v c d
     → IsNarrow 0 (quotient_bound (limits_at 56) (bounded a b 0 v) (bounded c d 0 v)) i → IsCornered v i
 cornered (negsuc n) (negsuc p) (pos (suc g)) (pos (suc h)) v i l x y k =
-    cornered_sizes n p g h v i (omega (arith, ints, x.from)) (omega (arith, ints, x.order)) (omega (arith, ints, x.to)) (omega (arith, ints, x.near))
-    (omega (arith, ints, y.from)) (omega (arith, ints, y.order)) (omega (arith, ints, y.to)) (omega (arith, ints, y.near)) l k
+    cornered_sizes n p g h v i (omega (arith, ints, x.from)) (omega (arith, ints, x.order)) (omega (arith, ints, x.to))
+    (omega (arith, ints, x.near))
+    (omega (arith, ints, y.from)) (omega (arith, ints, y.order)) (omega (arith, ints, y.to))
+    (omega (arith, ints, y.near)) l k
 cornered (pos n) b c d v i l x y k = absurd (omega (arith, ints, x.order, x.to))
 cornered (negsuc n) (pos p) c d v i l x y k = absurd (omega (arith, ints, x.to))
 cornered (negsuc n) (negsuc p) (pos zero) d v i l x y k = absurd (omega (arith, ints, y.from))

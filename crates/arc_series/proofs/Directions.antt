@@ -7,7 +7,8 @@ use Rattle.book_model.specs.Interval.{Interval, everything, between, ◌⊆◌}
 use Rattle.book_model.proofs.Fractions.{le_trans}
 use Rattle.book_model.specs.programs.Leading.{units_of_56}
 use Rattle.book_model.specs.programs.Widths.{IsWithin, IsAbout}
-use Rattle.book_model.specs.numbers.Bounds.{Bound, bounded, Reach, IsNarrow, at_32, limits_of, limits_at, bound_of, implies, integer_bound, difference_bound}
+use Rattle.book_model.specs.numbers.Bounds.{Bound, bounded, Reach, IsNarrow, at_32, limits_of, limits_at, bound_of}
+use Rattle.book_model.specs.numbers.Bounds.{implies, integer_bound, difference_bound}
 use Rattle.book_model.specs.numbers.Bounds.{quotient_bound, arctangent_bound, arc_spans, spanned_bound}
 use Rattle.book_model.specs.numbers.Expressions.{Expression, argument, integer, subtract, divide, arctangent}
 use Rattle.book_model.specs.numbers.Relations.{Narrow, Keeps}
@@ -27,9 +28,11 @@ both_within a b c d v u (between x y) h k = record {
 
 -- y, which is argument 0, and x
 abbrev sides : ℕ → Bound
-sides k = if k == 0 then bounded (pos (2 ^ 28)) (pos (2 ^ 33)) (2 ^ 40) 0 else bounded (neg_ℤ (pos (2 ^ 33))) (neg_ℤ (pos (2 ^ 31))) (2 ^ 40) 0
+sides k = if k == 0 then bounded (pos (2 ^ 28)) (pos (2 ^ 33)) (2 ^ 40) 0 else bounded (neg_ℤ (pos (2 ^ 33)))
+    (neg_ℤ (pos (2 ^ 31))) (2 ^ 40) 0
 
-range_reach : implies (bound_of (limits_at 56) sides (subtract (integer (pos 90)) (arctangent (divide (argument 1) (argument 0)))))
+range_reach : implies
+    (bound_of (limits_at 56) sides (subtract (integer (pos 90)) (arctangent (divide (argument 1) (argument 0)))))
     (bounded (pos (90 * 2 ^ 32)) (pos (181 * 2 ^ 32)) (2 ^ 60) (2 ^ 60)) ≡ true
 unfolding implies bound_of integer_bound difference_bound quotient_bound arctangent_bound arc_spans spanned_bound
 range_reach = refl
@@ -37,7 +40,8 @@ range_reach = refl
 abbrev arcs : ℕ → Bound
 arcs k = bounded (neg_ℤ (pos (91 * 2 ^ 32))) (pos (91 * 2 ^ 32)) (2 ^ 40) 0
 
-width_reach : implies (bound_of (limits_at 56) arcs (subtract (integer (pos 90)) (argument 0))) (bounded (neg_ℤ (pos (2 ^ 40))) (pos (2 ^ 40)) (2 ^ 40) 0)
+width_reach : implies (bound_of (limits_at 56) arcs (subtract (integer (pos 90)) (argument 0)))
+    (bounded (neg_ℤ (pos (2 ^ 40))) (pos (2 ^ 40)) (2 ^ 40) 0)
     ≡ true
 unfolding implies bound_of integer_bound difference_bound
 width_reach = refl
@@ -46,9 +50,11 @@ width_reach = refl
 abbrev corners : (a b c d : ℤ) (v : ℕ) → ℕ → Bound
 corners a b c d v k = if k == 0 then bounded c d 0 v else bounded a b 0 v
 
-module _ {E : Type 0} (shown : E → Interval) (n v : ℕ) (y x : E) (e : n ≡ 56) (l : v ≤ 2 ^ 44) (hy : IsWithin (pos (2 ^ 28)) (pos (2 ^ 33)) v (shown y))
+module _ {E : Type 0} (shown : E → Interval) (n v : ℕ) (y x : E) (e : n ≡ 56) (l : v ≤ 2 ^ 44)
+    (hy : IsWithin (pos (2 ^ 28)) (pos (2 ^ 33)) v (shown y))
     (hx : IsWithin (neg_ℤ (pos (2 ^ 33))) (neg_ℤ (pos (2 ^ 31))) v (shown x)) (q : E)
-    (f : (r : Reach) (a b : Expression) → Narrow shown (limits_of n) r a x → Narrow shown (limits_of n) r b y → Narrow shown (limits_of n) r (divide a b) q)
+    (f : (r : Reach) (a b : Expression) → Narrow shown (limits_of n) r a x → Narrow shown (limits_of n) r b y
+    → Narrow shown (limits_of n) r (divide a b) q)
   where
     quotient_cornered : IsCornered v (shown q)
     unfolding Keeps bound_of
@@ -62,10 +68,13 @@ module _ {E : Type 0} (shown : E → Interval) (n v : ℕ) (y x : E) (e : n ≡ 
         (rw (limits_within n (omega arith) (omega arith), e) at k.kept)
 
     pub direction_within : (t z d : E)
-        → ((low : ℤ) (p s w : ℕ) → n ≡ 56 → IsRateFrom s p → IsWithin low (neg_ℤ (pos p)) w (shown q) → IsAbout (91 * 2 ^ 32) (slow_width s w) (shown t))
-        → ((r : Reach) (a : Expression) → Narrow shown (limits_of n) r a q → Narrow shown (limits_of n) r (arctangent a) t)
+        → ((low : ℤ) (p s w : ℕ) → n ≡ 56 → IsRateFrom s p → IsWithin low (neg_ℤ (pos p)) w (shown q)
+        → IsAbout (91 * 2 ^ 32) (slow_width s w) (shown t))
+        → ((r : Reach) (a : Expression) → Narrow shown (limits_of n) r a q
+        → Narrow shown (limits_of n) r (arctangent a) t)
         → ((r : Reach) → Narrow shown (limits_of n) r (integer (pos 90)) z)
-        → ((r : Reach) (a b : Expression) → Narrow shown (limits_of n) r a z → Narrow shown (limits_of n) r b t → Narrow shown (limits_of n) r (subtract a b) d)
+        → ((r : Reach) (a b : Expression) → Narrow shown (limits_of n) r a z → Narrow shown (limits_of n) r b t
+        → Narrow shown (limits_of n) r (subtract a b) d)
         → IsWithin (pos (90 * 2 ^ 32)) (pos (181 * 2 ^ 32)) (230 * v + 2 ^ 20 - 2 ^ 9) (shown d)
     direction_within t z d s g h i =
         let c = quotient_cornered in
@@ -73,18 +82,22 @@ module _ {E : Type 0} (shown : E → Interval) (n v : ℕ) (y x : E) (e : n ≡ 
         let w = slow_width c.rate c.width in
         let a = s c.low c.least c.rate c.width e c.enough c.kept in
         let u : Reach = record { width = w; bounds = arcs } in
-        looser _ _ _ _ w (230 * v + 2 ^ 20 - 2 ^ 9) (shown d) (omega (arith, ints)) (omega (arith, ints)) (omega (arith, c.fits))
+        looser _ _ _ _ w (230 * v + 2 ^ 20 - 2 ^ 9) (shown d) (omega (arith, ints)) (omega (arith, ints))
+        (omega (arith, c.fits))
         (both_within _ _ (neg_ℤ (pos (2 ^ 40))) (pos (2 ^ 40)) (2 ^ 20 * v + 2 ^ 60) w (shown d)
-        (measured shown n v sides (subtract (integer (pos 90)) (arctangent (divide (argument 1) (argument 0)))) _ _ (2 ^ 60) (2 ^ 60) (2 ^ 20 * v + 2 ^ 60) d e
+        (measured shown n v sides (subtract (integer (pos 90)) (arctangent (divide (argument 1) (argument 0)))) _ _
+        (2 ^ 60) (2 ^ 60) (2 ^ 20 * v + 2 ^ 60) d e
         range_reach (omega arith)
         (i r _ _ (h r) (g r _ (f r (argument 1) (argument 0)
         (sloped shown (limits_of n) v v sides 1 _ _ (2 ^ 40) 0 x refl (omega arith) hx)
         (sloped shown (limits_of n) v v sides 0 _ _ (2 ^ 40) 0 y refl (omega arith) hy)))))
-        (measured shown n w arcs (subtract (integer (pos 90)) (argument 0)) _ _ (2 ^ 40) 0 w d e width_reach (omega arith)
+        (measured shown n w arcs (subtract (integer (pos 90)) (argument 0)) _ _ (2 ^ 40) 0 w d e width_reach
+        (omega arith)
         (i u _ _ (h u) (measured_argument shown (limits_of n) _ _ w 0 t a))))
 
 -- endpoints that lie in what is measured from 1/16 on are positive
-pub start_positive : (high : ℤ) (v : ℕ) (i : Interval) (lo hi : ℤ) → IsWithin (pos (2 ^ 28)) high v i → between (units_of_56 lo) (units_of_56 hi) ⊆ i → pos 1
+pub start_positive : (high : ℤ) (v : ℕ) (i : Interval) (lo hi : ℤ) → IsWithin (pos (2 ^ 28)) high v i
+    → between (units_of_56 lo) (units_of_56 hi) ⊆ i → pos 1
     ≤ℤ lo
 unfolding IsNarrow
 start_positive high v everything lo hi h k = absurd h.kept

@@ -1,5 +1,6 @@
 -- The pieces of the line as the code names them, what spans hold, and the form of an arcsine.
-use Rattle.std.specs.Prelude.{◌-◌, ◌*◌, ◌^◌, ℤ, pos, negsuc, neg_ℤ, Option, Some, None, List, [], ◌∷◌, Bool, false, ◌||◌}
+use Rattle.std.specs.Prelude.{◌-◌, ◌*◌, ◌^◌, ℤ, pos, negsuc, neg_ℤ, Option, Some, None, List, [], ◌∷◌, Bool, false}
+use Rattle.std.specs.Prelude.{◌||◌}
 use Rattle.book_model.specs.Interval.{Interval, everything, between, ◌⊆◌}
 use lib.Signed.{lt_z}
 use Rattle.book_model.specs.programs.Leading.{units_of_56}

@@ -1,5 +1,6 @@
 -- How wide the spans of arctangents are, and where they lie. All numbers and degrees are in units of 2^-56.
-use Rattle.std.specs.Prelude.{◌*◌, ◌+◌, ◌-◌, ◌≤◌, ◌^◌, ℕ, ℤ, pos, neg_ℤ, ◌+ℤ◌, ◌-ℤ◌, ◌*ℤ◌, ◌≤ℤ◌, ◌<ℤ◌, ◌⊎◌, Option, Some, None}
+use Rattle.std.specs.Prelude.{◌*◌, ◌+◌, ◌-◌, ◌≤◌, ◌^◌, ℕ, ℤ, pos, neg_ℤ, ◌+ℤ◌, ◌-ℤ◌, ◌*ℤ◌, ◌≤ℤ◌, ◌<ℤ◌, ◌⊎◌, Option}
+use Rattle.std.specs.Prelude.{Some, None}
 use Rattle.std.specs.Int.{int_min, int_max}
 use Rattle.book_model.specs.numbers.Bounds.{ceil_div}
 use Rattle.encl_core.specs.declared.span.Span.{Span}
@@ -49,7 +50,8 @@ last_edge Near = edge_near_above
 last_edge Above = edge_above
 last_edge FarAbove = no_end
 
--- z is at least what the arctangents of numbers from k on are, but for 10: -90 degrees, and what follows from those of -1, 0 and 1
+-- z is at least what the arctangents of numbers from k on are, but for 10: -90 degrees, and what follows from those of
+-- -1, 0 and 1
 pub record IsFrom (k z : ℤ) : Type 0 where
   pub quarter : neg_ℤ (pos (90 * 2 ^ 56)) ≤ℤ (z +ℤ pos 10)
   pub minus_one : int_min (pos 0) ((k +ℤ pos (2 ^ 56)) *ℤ pos 573) ≤ℤ ((z +ℤ pos (45 * 2 ^ 56) +ℤ pos 10) *ℤ pos 10)
@@ -60,8 +62,8 @@ pub record IsFrom (k z : ℤ) : Type 0 where
 abbrev pub IsUpTo : (k z : ℤ) → Type 0
 IsUpTo k z = IsFrom (neg_ℤ k) (neg_ℤ z)
 
--- s, in 2^-60, is at least 9/4 over the square of 1 - k, where k is at most 0: the arctangents of numbers up to k, in radians, rise by
--- at most so much times what the numbers do
+-- s, in 2^-60, is at least 9/4 over the square of 1 - k, where k is at most 0: the arctangents of numbers up to k, in
+-- radians, rise by at most so much times what the numbers do
 pub record IsRate (s : ℕ) (k : ℤ) : Type 0 where
   pub below : k ≤ℤ pos 0
   pub enough : pos (9 * 2 ^ 170) ≤ℤ (pos s *ℤ ((pos (2 ^ 56) -ℤ k) *ℤ (pos (2 ^ 56) -ℤ k)))
@@ -79,14 +81,16 @@ pub record IsAt (e : Edge) (r : Span) : Type 0 where
   pub low : r.lo ≤ℤ (e.arc +ℤ pos 2)
   pub high : e.arc ≤ℤ (r.hi +ℤ pos 2)
 
--- the span of the arctangents of what two endpoints have in common with the line between two edges: its width is at most 57.3 times
--- how far apart these are, and so many tenths more; and 57.3 times that at a rate of the numbers
+-- the span of the arctangents of what two endpoints have in common with the line between two edges: its width is at
+-- most 57.3 times how far apart these are, and so many tenths more; and 57.3 times that at a rate of the numbers
 pub record IsReach (first last : Edge) (tenths : ℕ) (lo hi : ℤ) (r : Span) : Type 0 where
   pub from : first.place ≤ℤ hi
   pub to : lo ≤ℤ last.place
-  pub narrow : ((r.hi -ℤ r.lo) *ℤ pos 10) ≤ℤ ((int_min last.place hi -ℤ int_max first.place lo) *ℤ pos 573 +ℤ pos tenths)
+  pub narrow : ((r.hi -ℤ r.lo) *ℤ pos 10) ≤ℤ ((int_min last.place hi -ℤ int_max first.place lo) *ℤ pos 573
+      +ℤ pos tenths)
   pub slow : (s : ℕ) → IsRate s hi
-      → ((r.hi -ℤ r.lo) *ℤ pos (10 * 2 ^ 60)) ≤ℤ ((int_min last.place hi *ℤ pos s -ℤ int_max first.place lo *ℤ pos s) *ℤ pos 573 +ℤ pos (tenths * 2 ^ 60))
+      → ((r.hi -ℤ r.lo) *ℤ pos (10 * 2 ^ 60))
+      ≤ℤ ((int_min last.place hi *ℤ pos s -ℤ int_max first.place lo *ℤ pos s) *ℤ pos 573 +ℤ pos (tenths * 2 ^ 60))
   pub at_first : lo ≤ℤ first.place → IsAt first r
   pub at_last : last.place ≤ℤ hi → IsAt last r
   pub above : IsFrom lo r.lo
@@ -100,7 +104,8 @@ Reaches first last tenths lo hi (Some r) = IsReach first last tenths lo hi r
 -- the span of the arctangents over two endpoints
 pub record IsOver (lo hi : ℤ) (r : Span) : Type 0 where
   pub narrow : ((r.hi -ℤ r.lo) *ℤ pos 10) ≤ℤ ((hi -ℤ lo) *ℤ pos 573 +ℤ pos 560)
-  pub slow : (s : ℕ) → IsRate s hi → ((r.hi -ℤ r.lo) *ℤ pos (10 * 2 ^ 60)) ≤ℤ ((hi *ℤ pos s -ℤ lo *ℤ pos s) *ℤ pos 573 +ℤ pos (560 * 2 ^ 60))
+  pub slow : (s : ℕ) → IsRate s hi
+      → ((r.hi -ℤ r.lo) *ℤ pos (10 * 2 ^ 60)) ≤ℤ ((hi *ℤ pos s -ℤ lo *ℤ pos s) *ℤ pos 573 +ℤ pos (560 * 2 ^ 60))
   pub above : IsFrom lo r.lo
   pub below : IsUpTo hi r.hi
 

@@ -22,4 +22,5 @@ IsCountedYear number = (negsuc 19999 ≤ℤ number) × (number ≤ℤ pos 20000)
 
 -- from where a month of such a year is counted
 abbrev pub IsMonthStart : MonthStart → Type 0
-IsMonthStart start = (negsuc 20000 ≤ℤ start.passed) × (start.passed ≤ℤ pos 20000) × (negsuc 18 ≤ℤ start.days) × (start.days ≤ℤ pos 342)
+IsMonthStart start = (negsuc 20000 ≤ℤ start.passed) × (start.passed ≤ℤ pos 20000) × (negsuc 18 ≤ℤ start.days)
+    × (start.days ≤ℤ pos 342)

@@ -1,30 +1,40 @@
 -- Arctangents of intervals nest, and so do arcsines, arccosines and the arctangents of two numbers.
-use Rattle.std.proofs.Common.{◌≡◌, ℕ, suc, ◌≤◌, refl, sym, arith, Bool, true, false, cond, pos, negsuc, Option, Some, None, List, [], ◌∷◌, map, inl, inr}
+use Rattle.std.proofs.Common.{◌≡◌, ℕ, suc, ◌≤◌, refl, sym, arith, Bool, true, false, cond, pos, negsuc, Option, Some}
+use Rattle.std.proofs.Common.{None, List, [], ◌∷◌, map, inl, inr}
 use Rattle.std.specs.Prelude.{◌&&◌}
 use Rattle.std.specs.List.{filter}
 use Rattle.std.proofs.lemmas.Int.{ints}
 use lib.Signed.{lt_z}
 use Rattle.exact_math.specs.Fraction.{Fraction, ◌≤F◌, whole, plus, opposite, smaller}
-use Rattle.exact_math.specs.Interval.{Interval, everything, between, IsProper, AreWithin, ◌⊆◌, hull, sum, difference, negative, product, quotient, power, clamp, one, excludes_zero}
-use Rattle.exact_math.proofs.Fractions.{le_refl, le_trans, le_total, at_most_true, positive_above, negative_below, larger_keeps, smaller_keeps, larger_first, smaller_first}
-use Rattle.exact_math.proofs.Intervals.{within_trans, within_refl, smaller_mono, larger_mono, difference_within, difference_proper, hull_within, hull_proper, clamp_within, clamp_proper, power_within, power_proper, quotient_within, quotient_proper}
+use Rattle.exact_math.specs.Interval.{Interval, everything, between, IsProper, AreWithin, ◌⊆◌, hull, sum, difference}
+use Rattle.exact_math.specs.Interval.{negative, product, quotient, power, clamp, one, excludes_zero}
+use Rattle.exact_math.proofs.Fractions.{le_refl, le_trans, le_total, at_most_true, positive_above, negative_below}
+use Rattle.exact_math.proofs.Fractions.{larger_keeps, smaller_keeps, larger_first, smaller_first}
+use Rattle.exact_math.proofs.Intervals.{within_trans, within_refl, smaller_mono, larger_mono, difference_within}
+use Rattle.exact_math.proofs.Intervals.{difference_proper, hull_within, hull_proper, clamp_within, clamp_proper}
+use Rattle.exact_math.proofs.Intervals.{power_within, power_proper, quotient_within, quotient_proper}
 use Rattle.exact_math.proofs.Hulls.{true_at_most, hull_holds_first, hull_holds_second, hull_least}
 use Rattle.exact_math.proofs.Narrowing.{Narrowing, at_least, compose, argument, steady, sums, products, quotients}
 use Rattle.book_model.specs.numbers.Octants.{only}
-use Rattle.book_model.specs.numbers.Arcs.{half, minus_half, Piece, far_below, below, near, above, far_above, pieces, begins_by, endpoints_from, low_from, high_to, meets, arc_of_part, arcs_over, hull_with, hull_of_all, arctangent_of, all_around, arctangent_of_two, other_side, arcsine_of, arccosine_of}
+use Rattle.book_model.specs.numbers.Arcs.{half, minus_half, Piece, far_below, below, near, above, far_above, pieces}
+use Rattle.book_model.specs.numbers.Arcs.{begins_by, endpoints_from, low_from, high_to, meets, arc_of_part, arcs_over}
+use Rattle.book_model.specs.numbers.Arcs.{hull_with, hull_of_all, arctangent_of, all_around, arctangent_of_two}
+use Rattle.book_model.specs.numbers.Arcs.{other_side, arcsine_of, arccosine_of}
 use Rattle.book_model.specs.numbers.Roots.{root_of}
 use Rattle.book_model.specs.programs.Nesting.{IsNested, IsNestedOfTwo}
 use Rattle.book_model.proofs.Roots.{roots}
 use Rattle.book_model.proofs.DegreeSines.{nested_by}
 use Rattle.book_model.proofs.ArcSeries.{amid}
-use Rattle.book_model.proofs.ArcPieces.{quarters, IsFrom, IsTo, InPiece, AreInOrder, IsArc, far_below_arc, below_arc, near_arc, above_arc, far_above_arc}
+use Rattle.book_model.proofs.ArcPieces.{quarters, IsFrom, IsTo, InPiece, AreInOrder, IsArc, far_below_arc, below_arc}
+use Rattle.book_model.proofs.ArcPieces.{near_arc, above_arc, far_above_arc}
 
 -- ---- the hull of several intervals
 abbrev pub Each : {A : Type 0} → (A → Type 0) → List A → Type 0
 Each P [] = Unit {0}
 Each P (x ∷ xs) = P x × Each P xs
 
-each_by : {A : Type 0} (P Q R : A → Type 0) (xs : List A) → ((x : A) → P x → Q x → R x) → Each P xs → Each Q xs → Each R xs
+each_by : {A : Type 0} (P Q R : A → Type 0) (xs : List A) → ((x : A) → P x → Q x → R x) → Each P xs → Each Q xs
+    → Each R xs
 each_by P Q R [] f h k = tt
 each_by P Q R (x ∷ xs) f h k = (f x h.0 k.0, each_by P Q R xs f h.1 k.1)
 
@@ -71,38 +81,46 @@ all_proper [] q = tt
 all_proper (i ∷ is) q = with_proper i is q.0 q.1
 
 -- ---- what pieces that pass a test give
-into_if : (g : Piece → Interval) (Q : Interval → Type 0) (p : Piece) (ps : List Piece) (t : Bool) → (t ≡ true → Q (g p)) → Each Q (map g ps)
+into_if : (g : Piece → Interval) (Q : Interval → Type 0) (p : Piece) (ps : List Piece) (t : Bool) → (t ≡ true → Q (g p))
+    → Each Q (map g ps)
     → Each Q (map g (cond t (p ∷ ps) ps))
 into_if g Q p ps true h r = (h refl, r)
 into_if g Q p ps false h r = r
 
-into_each : (m : Piece → Bool) (g : Piece → Interval) (Q : Interval → Type 0) (ps : List Piece) → Each (λ p. m p ≡ true → Q (g p)) ps
+into_each : (m : Piece → Bool) (g : Piece → Interval) (Q : Interval → Type 0) (ps : List Piece)
+    → Each (λ p. m p ≡ true → Q (g p)) ps
     → Each Q (map g (filter m ps))
 into_each m g Q [] h = tt
 into_each m g Q (p ∷ ps) h = into_if g Q p (filter m ps) (m p) h.0 (into_each m g Q ps h.1)
 
-out_if : (g : Piece → Interval) (Q : Interval → Type 0) (p : Piece) (ps : List Piece) (t : Bool) → Each Q (map g (cond t (p ∷ ps) ps)) → (t ≡ true → Q (g p))
+out_if : (g : Piece → Interval) (Q : Interval → Type 0) (p : Piece) (ps : List Piece) (t : Bool)
+    → Each Q (map g (cond t (p ∷ ps) ps)) → (t ≡ true → Q (g p))
     × Each Q (map g ps)
 out_if g Q p ps true h = (λ e. h.0, h.1)
 out_if g Q p ps false h = (λ e. absurd (cc), h)
 
-out_each : (m : Piece → Bool) (g : Piece → Interval) (Q : Interval → Type 0) (ps : List Piece) → Each Q (map g (filter m ps))
+out_each : (m : Piece → Bool) (g : Piece → Interval) (Q : Interval → Type 0) (ps : List Piece)
+    → Each Q (map g (filter m ps))
     → Each (λ p. m p ≡ true → Q (g p)) ps
 out_each m g Q [] h = tt
 out_each m g Q (p ∷ ps) h = let o = out_if g Q p (filter m ps) (m p) h in (o.0, out_each m g Q ps o.1)
 
-some_if : (g : Piece → Interval) (p : Piece) (ps : List Piece) (t : Bool) → t ≡ true → AreSome (map g (cond t (p ∷ ps) ps))
+some_if : (g : Piece → Interval) (p : Piece) (ps : List Piece) (t : Bool) → t ≡ true
+    → AreSome (map g (cond t (p ∷ ps) ps))
 some_if g p ps true e = tt
 some_if g p ps false e = absurd (cc)
 
-still_some : (g : Piece → Interval) (p : Piece) (ps : List Piece) (t : Bool) → AreSome (map g ps) → AreSome (map g (cond t (p ∷ ps) ps))
+still_some : (g : Piece → Interval) (p : Piece) (ps : List Piece) (t : Bool) → AreSome (map g ps)
+    → AreSome (map g (cond t (p ∷ ps) ps))
 still_some g p ps true h = tt
 still_some g p ps false h = h
 
-some_first : (m : Piece → Bool) (g : Piece → Interval) (p : Piece) (ps : List Piece) → m p ≡ true → AreSome (map g (filter m (p ∷ ps)))
+some_first : (m : Piece → Bool) (g : Piece → Interval) (p : Piece) (ps : List Piece) → m p ≡ true
+    → AreSome (map g (filter m (p ∷ ps)))
 some_first m g p ps e = some_if g p (filter m ps) (m p) e
 
-some_later : (m : Piece → Bool) (g : Piece → Interval) (p : Piece) (ps : List Piece) → AreSome (map g (filter m ps)) → AreSome (map g (filter m (p ∷ ps)))
+some_later : (m : Piece → Bool) (g : Piece → Interval) (p : Piece) (ps : List Piece) → AreSome (map g (filter m ps))
+    → AreSome (map g (filter m (p ∷ ps)))
 some_later m g p ps h = still_some g p (filter m ps) (m p) h
 
 -- ---- the part of an interval in a piece
@@ -153,11 +171,13 @@ high_begun None t b q h = tt
 high_begun (Some e) None b q h = h
 high_begun (Some e) (Some f) b q h = smaller_keeps (λ z. e ≤F z) f b q h
 
-low_high : (o t : Option Fraction) (a b : Fraction) → AreInOrder o t → a ≤F b → IsFrom o b → IsTo t a → low_from o a ≤F high_to t b
+low_high : (o t : Option Fraction) (a b : Fraction) → AreInOrder o t → a ≤F b → IsFrom o b → IsTo t a
+    → low_from o a ≤F high_to t b
 low_high None None a b q l h k = l
 low_high None (Some f) a b q l h k = smaller_keeps (λ z. a ≤F z) f b k l
 low_high (Some e) None a b q l h k = larger_keeps (λ z. z ≤F b) e a h l
-low_high (Some e) (Some f) a b q l h k = larger_keeps (λ z. z ≤F smaller f b) e a (smaller_keeps (λ z. e ≤F z) f b q h) (smaller_keeps (λ z. a ≤F z) f b k l)
+low_high (Some e) (Some f) a b q l h k = larger_keeps (λ z. z ≤F smaller f b) e a (smaller_keeps (λ z. e ≤F z) f b q h)
+    (smaller_keeps (λ z. a ≤F z) f b k l)
 
 low_mono : (o : Option Fraction) (c a : Fraction) → c ≤F a → low_from o c ≤F low_from o a
 low_mono None c a h = h
@@ -190,7 +210,8 @@ both_in true false e f = f
 both_in false t e f = e
 
 pub met_out : (p : Piece) (a b : Fraction) → meets a b p ≡ true → AreMet p a b
-met_out p a b e = let s = both_out _ _ e in record { begun = begins_out p.begin b s.0; ended = endpoints_out p.end a s.1 }
+met_out p a b e = let s = both_out _ _ e in
+    record { begun = begins_out p.begin b s.0; ended = endpoints_out p.end a s.1 }
 
 met_in : (p : Piece) (a b : Fraction) → AreMet p a b → meets a b p ≡ true
 met_in p a b m = both_in _ _ (begins_in p.begin b m.begun) (endpoints_in p.end a m.ended)
@@ -198,7 +219,8 @@ met_in p a b m = both_in _ _ (begins_in p.begin b m.begun) (endpoints_in p.end a
 met_outside : (p : Piece) (a b c d : Fraction) → c ≤F a → b ≤F d → AreMet p a b → AreMet p c d
 met_outside p a b c d h k m = record { begun = from_above p.begin b d k m.begun; ended = to_below p.end c a h m.ended }
 
-part_within : (n : ℕ) (p : Piece) (a b c d : Fraction) → IsArc p → a ≤F b → c ≤F a → b ≤F d → AreMet p a b → arc_of_part n a b p ⊆ arc_of_part n c d p
+part_within : (n : ℕ) (p : Piece) (a b c d : Fraction) → IsArc p → a ≤F b → c ≤F a → b ≤F d → AreMet p a b
+    → arc_of_part n a b p ⊆ arc_of_part n c d p
 unfolding arc_of_part
 part_within n p a b c d r o h k m =
     let w = met_outside p a b c d h k m in
@@ -210,27 +232,34 @@ part_within n p a b c d r o h k m =
     let u = low_in p c d r.order w in
     let v = high_in p c d r.order w in
     hull_least
-    (amid (r.rises n (low_of p c) (low_of p a) u x lo) (r.rises n (low_of p a) (high_of p d) x v (le_trans _ _ _ mid hi)))
-    (amid (r.rises n (low_of p c) (high_of p b) u y (le_trans _ _ _ lo mid)) (r.rises n (high_of p b) (high_of p d) y v hi))
+    (amid (r.rises n (low_of p c) (low_of p a) u x lo)
+    (r.rises n (low_of p a) (high_of p d) x v (le_trans _ _ _ mid hi)))
+    (amid (r.rises n (low_of p c) (high_of p b) u y (le_trans _ _ _ lo mid))
+    (r.rises n (high_of p b) (high_of p d) y v hi))
 
-part_deeper : (n : ℕ) (p : Piece) (a b : Fraction) → IsArc p → AreMet p a b → arc_of_part (suc n) a b p ⊆ arc_of_part n a b p
+part_deeper : (n : ℕ) (p : Piece) (a b : Fraction) → IsArc p → AreMet p a b
+    → arc_of_part (suc n) a b p ⊆ arc_of_part n a b p
 unfolding arc_of_part
-part_deeper n p a b r m = hull_within (r.deeper n (low_of p a) (low_in p a b r.order m)) (r.deeper n (high_of p b) (high_in p a b r.order m))
+part_deeper n p a b r m = hull_within (r.deeper n (low_of p a) (low_in p a b r.order m))
+    (r.deeper n (high_of p b) (high_in p a b r.order m))
 
 part_proper : (n : ℕ) (p : Piece) (a b : Fraction) → IsArc p → AreMet p a b → IsProper (arc_of_part n a b p)
 unfolding arc_of_part
-part_proper n p a b r m = hull_proper _ _ (r.proper n (low_of p a) (low_in p a b r.order m)) (r.proper n (high_of p b) (high_in p a b r.order m))
+part_proper n p a b r m = hull_proper _ _ (r.proper n (low_of p a) (low_in p a b r.order m))
+    (r.proper n (high_of p b) (high_in p a b r.order m))
 
 part_inside : (n : ℕ) (p : Piece) (a b : Fraction) → IsArc p → AreMet p a b → arc_of_part n a b p ⊆ quarters
 unfolding arc_of_part
-part_inside n p a b r m = hull_least (r.inside n (low_of p a) (low_in p a b r.order m)) (r.inside n (high_of p b) (high_in p a b r.order m))
+part_inside n p a b r m = hull_least (r.inside n (low_of p a) (low_in p a b r.order m))
+    (r.inside n (high_of p b) (high_in p a b r.order m))
 
 -- ---- all pieces
 all_arcs : Each IsArc pieces
 all_arcs = (far_below_arc, (below_arc, (near_arc, (above_arc, (far_above_arc, tt)))))
 
 -- what holds of the arctangents of the part in each piece that is met
-arcs_each : (n : ℕ) (a b : Fraction) (Q : Interval → Type 0) → ((p : Piece) → IsArc p → AreMet p a b → Q (arc_of_part n a b p))
+arcs_each : (n : ℕ) (a b : Fraction) (Q : Interval → Type 0)
+    → ((p : Piece) → IsArc p → AreMet p a b → Q (arc_of_part n a b p))
     → Each Q (arcs_over n a b pieces)
 arcs_each n a b Q f =
     into_each (meets a b) (arc_of_part n a b) Q pieces
@@ -242,13 +271,17 @@ arcs_there n a b o =
     let m = meets a b in
     let g = arc_of_part n a b in
     elim (le_total a (whole (negsuc 2))) [
-      | inl h ↦ some_first m g far_below (below ∷ near ∷ above ∷ far_above ∷ []) (met_in far_below a b (record { begun = tt; ended = h }))
+      | inl h ↦ some_first m g far_below (below ∷ near ∷ above ∷ far_above ∷ [])
+          (met_in far_below a b (record { begun = tt; ended = h }))
       | inr h ↦ some_later m g far_below (below ∷ near ∷ above ∷ far_above ∷ []) (elim (le_total a minus_half) [
-        | inl k ↦ some_first m g below (near ∷ above ∷ far_above ∷ []) (met_in below a b (record { begun = le_trans _ a b h o; ended = k }))
+        | inl k ↦ some_first m g below (near ∷ above ∷ far_above ∷ [])
+            (met_in below a b (record { begun = le_trans _ a b h o; ended = k }))
         | inr k ↦ some_later m g below (near ∷ above ∷ far_above ∷ []) (elim (le_total a half) [
-          | inl f ↦ some_first m g near (above ∷ far_above ∷ []) (met_in near a b (record { begun = le_trans _ a b k o; ended = f }))
+          | inl f ↦ some_first m g near (above ∷ far_above ∷ [])
+              (met_in near a b (record { begun = le_trans _ a b k o; ended = f }))
           | inr f ↦ some_later m g near (above ∷ far_above ∷ []) (elim (le_total a (whole (pos 3))) [
-            | inl e ↦ some_first m g above (far_above ∷ []) (met_in above a b (record { begun = le_trans _ a b f o; ended = e }))
+            | inl e ↦ some_first m g above (far_above ∷ [])
+                (met_in above a b (record { begun = le_trans _ a b f o; ended = e }))
             | inr e ↦ some_later m g above (far_above ∷ []) (some_first m g far_above []
                 (met_in far_above a b (record { begun = le_trans _ a b e o; ended = tt })))
           ])
@@ -257,21 +290,24 @@ arcs_there n a b o =
     ]
 
 -- the hull over a .. b lies within that over c .. d, where in each piece that it meets it does
-arcs_within : (n m : ℕ) (a b c d : Fraction) → a ≤F b → ((p : Piece) → IsArc p → AreMet p a b → AreMet p c d × (arc_of_part m a b p ⊆ arc_of_part n c d p))
+arcs_within : (n m : ℕ) (a b c d : Fraction) → a ≤F b
+    → ((p : Piece) → IsArc p → AreMet p a b → AreMet p c d × (arc_of_part m a b p ⊆ arc_of_part n c d p))
     → hull_of_all (arcs_over m a b pieces) ⊆ hull_of_all (arcs_over n c d pieces)
 arcs_within n m a b c d o f =
     let k = hull_of_all (arcs_over n c d pieces) in
     let held = out_each (meets c d) (arc_of_part n c d) (λ i. i ⊆ k) pieces (all_hold (arcs_over n c d pieces)) in
     all_least (arcs_over m a b pieces) k (arcs_there m a b o)
     (into_each (meets a b) (arc_of_part m a b) (λ i. i ⊆ k) pieces
-    (each_by IsArc (λ p. meets c d p ≡ true → arc_of_part n c d p ⊆ k) (λ p. meets a b p ≡ true → arc_of_part m a b p ⊆ k) pieces
+    (each_by IsArc (λ p. meets c d p ≡ true → arc_of_part n c d p ⊆ k) (λ p. meets a b p ≡ true
+    → arc_of_part m a b p ⊆ k) pieces
     (λ p r h t. let s = f p r (met_out p a b t) in within_trans s.1 (h (met_in p c d s.0))) all_arcs held))
 
 -- ---- the arctangent
 arctangent_proper : (n : ℕ) (i : Interval) → IsProper i → IsProper (arctangent_of n i)
 unfolding arctangent_of
 arctangent_proper n everything p = tt
-arctangent_proper n (between a b) p = all_proper (arcs_over n a b pieces) (arcs_each n a b IsProper (λ q r m. part_proper n q a b r m))
+arctangent_proper n (between a b) p = all_proper (arcs_over n a b pieces)
+    (arcs_each n a b IsProper (λ q r m. part_proper n q a b r m))
 
 pub arctangent_endpoints : (n : ℕ) (i j : Interval) → IsProper i → AreWithin i j → arctangent_of n i ⊆ arctangent_of n j
 unfolding arctangent_of
@@ -286,7 +322,11 @@ arctangent_deeper n everything p = record { endpoints = tt }
 arctangent_deeper n (between a b) p = arcs_within n (suc n) a b a b p (λ q r m. (m, part_deeper n q a b r m))
 
 pub arctangents : Narrowing arctangent_of
-arctangents = record { proper = arctangent_proper; within = λ n {i} {j} p h. arctangent_endpoints n i j p h.endpoints; deeper = arctangent_deeper }
+arctangents = record {
+  proper = arctangent_proper;
+  within = λ n {i} {j} p h. arctangent_endpoints n i j p h.endpoints;
+  deeper = arctangent_deeper;
+}
 
 pub arctangent_inside : (n : ℕ) (a b : Fraction) → a ≤F b → arctangent_of n (between a b) ⊆ quarters
 unfolding arctangent_of
@@ -295,12 +335,21 @@ arctangent_inside n a b p = all_least (arcs_over n a b pieces) quarters (arcs_th
 
 -- ---- the arcsine
 pub clamps : Narrowing (λ n i. clamp i)
-clamps = record { proper = λ n i p. clamp_proper i p; within = λ n {i} {j} p h. clamp_within h; deeper = λ n i p. within_refl (clamp i) }
+clamps = record {
+  proper = λ n i p. clamp_proper i p;
+  within = λ n {i} {j} p h. clamp_within h;
+  deeper = λ n i p. within_refl (clamp i);
+}
 
 squares : Narrowing (λ n i. power i 2)
-squares = record { proper = λ n i p. power_proper 2 i p; within = λ n {i} {j} p h. power_within 2 p h; deeper = λ n i p. within_refl (power i 2) }
+squares = record {
+  proper = λ n i p. power_proper 2 i p;
+  within = λ n {i} {j} p h. power_within 2 p h;
+  deeper = λ n i p. within_refl (power i 2);
+}
 
-differences_from : (c : Fraction) (f : ℕ → Interval → Interval) → Narrowing f → Narrowing (λ n i. difference (only c) (f n i))
+differences_from : (c : Fraction) (f : ℕ → Interval → Interval) → Narrowing f
+    → Narrowing (λ n i. difference (only c) (f n i))
 differences_from c f d = record {
   proper = λ n i p. difference_proper (only c) (f n i) (le_refl c) (d.proper n i p);
   within = λ n {i} {j} p h. difference_within (within_refl (only c)) (d.within n p h);
@@ -308,7 +357,8 @@ differences_from c f d = record {
 }
 
 other_sides : Narrowing other_side
-other_sides = compose root_of (λ n i. difference (only one) (power i 2)) roots (differences_from one (λ n i. power i 2) squares)
+other_sides = compose root_of (λ n i. difference (only one) (power i 2)) roots
+    (differences_from one (λ n i. power i 2) squares)
 
 abbrev tangents : ℕ → Interval → Interval
 tangents n i = quotient i (sum (only one) (other_side n i))
@@ -321,7 +371,8 @@ pub arcsines : Narrowing arcsine_of
 unfolding arcsine_of
 arcsines =
     products (λ n i. arctangent_of n (tangents n (clamp i))) (λ n i. only (whole (pos 2)))
-    (compose arctangent_of (λ n i. tangents n (clamp i)) arctangents (compose tangents (λ n i. clamp i) half_tangents clamps))
+    (compose arctangent_of (λ n i. tangents n (clamp i)) arctangents
+    (compose tangents (λ n i. clamp i) half_tangents clamps))
     (steady (only (whole (pos 2))) (le_refl (whole (pos 2))))
 
 pub arccosines : Narrowing arccosine_of
@@ -353,22 +404,28 @@ lower_half = record { endpoints = (record { cross = record { le = tt } }, record
 abbrev less_arctangent : ℕ → Fraction → (c d a b : Fraction) → Interval
 less_arctangent n e c d a b = difference (only e) (arctangent_of n (quotient (between c d) (between a b)))
 
-pub less_inside : (n : ℕ) (e c d a b : Fraction) → difference (only e) quarters ⊆ all_around → a ≤F b → c ≤F d → excludes_zero a b ≡ true
+pub less_inside : (n : ℕ) (e c d a b : Fraction) → difference (only e) quarters ⊆ all_around → a ≤F b → c ≤F d
+    → excludes_zero a b ≡ true
     → less_arctangent n e c d a b ⊆ all_around
 less_inside n e c d a b q o p h =
-    within_trans (difference_within (within_refl (only e)) (bounded_inside n _ (quotient_proper (between c d) (between a b) p o) (quotient_bounded c d a b h)))
+    within_trans
+    (difference_within (within_refl (only e)) (bounded_inside n _ (quotient_proper (between c d) (between a b) p o)
+    (quotient_bounded c d a b h)))
     q
 
-less_nested : (n m : ℕ) (e c d a b c' d' a' b' : Fraction) → n ≤ m → a ≤F b → c ≤F d → between c d ⊆ between c' d' → between a b ⊆ between a' b'
+less_nested : (n m : ℕ) (e c d a b c' d' a' b' : Fraction) → n ≤ m → a ≤F b → c ≤F d → between c d ⊆ between c' d'
+    → between a b ⊆ between a' b'
     → less_arctangent m e c d a b ⊆ less_arctangent n e c' d' a' b'
 less_nested n m e c d a b c' d' a' b' l o p h k =
-    difference_within (within_refl (only e)) (at_least arctangent_of arctangents n m l (quotient_proper (between c d) (between a b) p o)
+    difference_within (within_refl (only e))
+    (at_least arctangent_of arctangents n m l (quotient_proper (between c d) (between a b) p o)
     (quotient_within p o h k))
 
 abbrev chosen : Bool → Bool → Interval → Interval → Interval
 chosen s t i j = cond s i (cond t j all_around)
 
-chosen_inside : (s t : Bool) (i j : Interval) → (s ≡ true → i ⊆ all_around) → (t ≡ true → j ⊆ all_around) → chosen s t i j ⊆ all_around
+chosen_inside : (s t : Bool) (i j : Interval) → (s ≡ true → i ⊆ all_around) → (t ≡ true → j ⊆ all_around)
+    → chosen s t i j ⊆ all_around
 chosen_inside true t i j h k = h refl
 chosen_inside false true i j h k = k refl
 chosen_inside false false i j h k = within_refl all_around
@@ -383,7 +440,8 @@ second_excludes a b e = by_test (lt_z (pos 0) a.num)
     by_test true = refl
     by_test false = e
 
-bounded_two_inside : (n : ℕ) (a b c d : Fraction) → a ≤F b → c ≤F d → arctangent_of_two n (between a b) (between c d) ⊆ all_around
+bounded_two_inside : (n : ℕ) (a b c d : Fraction) → a ≤F b → c ≤F d → arctangent_of_two n (between a b) (between c d)
+    ⊆ all_around
 unfolding arctangent_of_two
 bounded_two_inside n a b c d o p =
     chosen_inside (lt_z (pos 0) a.num) (lt_z b.num (pos 0)) _ _
@@ -397,30 +455,36 @@ two_inside n (between a b) everything o p = within_refl all_around
 two_inside n (between a b) (between c d) o p = bounded_two_inside n a b c d o p
 
 positive_stays : (a' a : Fraction) → a' ≤F a → lt_z (pos 0) a'.num ≡ true → lt_z (pos 0) a.num ≡ true
-positive_stays a' a h e = let p = (positive_above a' a (record { above = omega (arith, ints, e) }) h).above in let t : true
+positive_stays a' a h e = let p = (positive_above a' a (record { above = omega (arith, ints, e) }) h).above in
+    let t : true
     ≡ lt_z (pos 0) a.num = omega (arith, ints, p) in sym t
 
 negative_stays : (b b' : Fraction) → b ≤F b' → lt_z b'.num (pos 0) ≡ true → lt_z b.num (pos 0) ≡ true
-negative_stays b b' h e = let p = (negative_below b b' (record { under = omega (arith, ints, e) }) h).under in let t : true
+negative_stays b b' h e = let p = (negative_below b b' (record { under = omega (arith, ints, e) }) h).under in
+    let t : true
     ≡ lt_z b.num (pos 0) = omega (arith, ints, p) in sym t
 
 pub not_positive : (a b : Fraction) → a ≤F b → lt_z b.num (pos 0) ≡ true → lt_z (pos 0) a.num ≡ false
 not_positive a b h e = let p = (negative_below a b (record { under = omega (arith, ints, e) }) h).under in let t : false
     ≡ lt_z (pos 0) a.num = omega (arith, ints, p) in sym t
 
-pub bounded_two_nested : (n m : ℕ) (a b a' b' c d c' d' : Fraction) → n ≤ m → a ≤F b → c ≤F d → AreWithin (between a b) (between a' b')
+pub bounded_two_nested : (n m : ℕ) (a b a' b' c d c' d' : Fraction) → n ≤ m → a ≤F b → c ≤F d
+    → AreWithin (between a b) (between a' b')
     → AreWithin (between c d) (between c' d')
     → arctangent_of_two m (between a b) (between c d) ⊆ arctangent_of_two n (between a' b') (between c' d')
 unfolding arctangent_of_two
 bounded_two_nested n m a b a' b' c d c' d' l o p h k = by_test (lt_z (pos 0) a'.num) (lt_z b'.num (pos 0)) refl refl
   where
     by_test : (s t : Bool) → lt_z (pos 0) a'.num ≡ s → lt_z b'.num (pos 0) ≡ t
-        → chosen (lt_z (pos 0) a.num) (lt_z b.num (pos 0)) (less_arctangent m (whole (pos 90)) c d a b) (less_arctangent m (whole (negsuc 89)) c d a b) ⊆ chosen
+        → chosen (lt_z (pos 0) a.num) (lt_z b.num (pos 0)) (less_arctangent m (whole (pos 90)) c d a b)
+        (less_arctangent m (whole (negsuc 89)) c d a b) ⊆ chosen
         s t (less_arctangent n (whole (pos 90)) c' d' a' b') (less_arctangent n (whole (negsuc 89)) c' d' a' b')
-    by_test true t e f = rw (positive_stays a' a h.0 e) (less_nested n m (whole (pos 90)) c d a b c' d' a' b' l o p (record { endpoints = k }) (record { endpoints = h }))
+    by_test true t e f = rw (positive_stays a' a h.0 e) (less_nested n m (whole (pos 90)) c d a b c' d' a' b' l o p
+        (record { endpoints = k }) (record { endpoints = h }))
     by_test false true e f =
         let g = negative_stays b b' h.1 f in
-        rw (not_positive a b o g, g) (less_nested n m (whole (negsuc 89)) c d a b c' d' a' b' l o p (record { endpoints = k }) (record { endpoints = h }))
+        rw (not_positive a b o g, g) (less_nested n m (whole (negsuc 89)) c d a b c' d' a' b' l o p
+        (record { endpoints = k }) (record { endpoints = h }))
     by_test false false e f = bounded_two_inside m a b c d o p
 
 two_endpoints : (n m : ℕ) (i i' j j' : Interval) → n ≤ m → IsProper i → IsProper j → AreWithin i i' → AreWithin j j'
@@ -430,9 +494,11 @@ two_endpoints n m i everything j j' l o p h k = two_inside m i j o p
 two_endpoints n m everything (between a' b') j j' l o p h k = absurd h
 two_endpoints n m (between a b) (between a' b') j everything l o p h k = two_inside m (between a b) j o p
 two_endpoints n m (between a b) (between a' b') everything (between c' d') l o p h k = absurd k
-two_endpoints n m (between a b) (between a' b') (between c d) (between c' d') l o p h k = bounded_two_nested n m a b a' b' c d c' d' l o p h k
+two_endpoints n m (between a b) (between a' b') (between c d) (between c' d') l o p h k = bounded_two_nested n m a b a'
+    b' c d c' d' l o p h k
 
-pub two_nested : (n m : ℕ) {i i' j j' : Interval} → n ≤ m → IsProper i → IsProper j → i ⊆ i' → j ⊆ j' → arctangent_of_two m i j ⊆ arctangent_of_two n i' j'
+pub two_nested : (n m : ℕ) {i i' j j' : Interval} → n ≤ m → IsProper i → IsProper j → i ⊆ i' → j ⊆ j'
+    → arctangent_of_two m i j ⊆ arctangent_of_two n i' j'
 two_nested n m {i} {i'} {j} {j'} l o p h k = two_endpoints n m i i' j j' l o p h.endpoints k.endpoints
 
 all_around_proper : IsProper all_around
@@ -444,7 +510,8 @@ chosen_proper false true i j p q = q
 chosen_proper false false i j p q = all_around_proper
 
 less_proper : (n : ℕ) (e c d a b : Fraction) → a ≤F b → c ≤F d → IsProper (less_arctangent n e c d a b)
-less_proper n e c d a b o p = difference_proper (only e) _ (le_refl e) (arctangents.proper n _ (quotient_proper (between c d) (between a b) p o))
+less_proper n e c d a b o p = difference_proper (only e) _ (le_refl e)
+    (arctangents.proper n _ (quotient_proper (between c d) (between a b) p o))
 
 pub two_proper : (n : ℕ) (i j : Interval) → IsProper i → IsProper j → IsProper (arctangent_of_two n i j)
 unfolding arctangent_of_two

@@ -24,14 +24,16 @@ first_day_paces y =
 
 -- a later year begins later
 pub first_day_rises_strictly : (y z : ℤ) → y <ℤ z → first_day y <ℤ first_day z
-first_day_rises_strictly y z h = let p = first_day_paces y in let q = first_day_paces z in omega (arith, ints, p.not_late, q.not_early)
+first_day_rises_strictly y z h = let p = first_day_paces y in let q = first_day_paces z in
+    omega (arith, ints, p.not_late, q.not_early)
 
 pub first_day_rises : (y z : ℤ) → y ≤ℤ z → first_day y ≤ℤ first_day z
 first_day_rises y z h = by_lt_z y z (λ l. let s = first_day_rises_strictly y z l in omega (arith, ints))
     (λ l. let e : y ≡ z = omega (arith, ints) in rw e (omega (arith, ints)))
 
 -- the year that is near is the day's year, unless the next has begun
-near_is : (near d : ℤ) → IsFloorQuotient near (pos 400 *ℤ (d +ℤ pos 1)) 146096 → (b : Bool) → int_lt d (first_day (near +ℤ pos 1)) ≡ b
+near_is : (near d : ℤ) → IsFloorQuotient near (pos 400 *ℤ (d +ℤ pos 1)) 146096 → (b : Bool)
+    → int_lt d (first_day (near +ℤ pos 1)) ≡ b
     → IsYearOfDay (if b then near else near +ℤ pos 1) d
 near_is near d q true e =
     let p = first_day_paces near in
@@ -43,14 +45,16 @@ near_is near d q false e =
 -- the year that is defined is the year of the day
 pub year_is : (d : ℤ) → IsYearOfDay (year_of_day d) d
 unfolding year_of_day
-year_is d = let near = floor_quotient (pos 400 *ℤ (d +ℤ pos 1)) 146096 in near_is near d (floor_quotient_is (pos 400 *ℤ (d +ℤ pos 1)) 146096)
+year_is d = let near = floor_quotient (pos 400 *ℤ (d +ℤ pos 1)) 146096 in
+    near_is near d (floor_quotient_is (pos 400 *ℤ (d +ℤ pos 1)) 146096)
     (int_lt d (first_day (near +ℤ pos 1))) refl
 
 -- a day's year isn't after that of a later day
 pub years_rise : (y z d e : ℤ) → IsYearOfDay y d → IsYearOfDay z e → d ≤ℤ e → y ≤ℤ z
 years_rise y z d e p q h =
     by_lt_z z y
-    (λ l. let r = first_day_rises (z +ℤ pos 1) y (omega (arith, ints)) in absurd (omega (arith, ints, r, p.begun, q.not_over)))
+    (λ l. let r = first_day_rises (z +ℤ pos 1) y (omega (arith, ints)) in
+    absurd (omega (arith, ints, r, p.begun, q.not_over)))
     (λ l. l)
 
 pub year_mono : (d e : ℤ) → d ≤ℤ e → year_of_day d ≤ℤ year_of_day e

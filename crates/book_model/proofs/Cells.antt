@@ -12,7 +12,8 @@ use Rattle.book_model.proofs.Calendars.{year_is}
 
 below_z : (q f n d : ℤ) → q ≤ℤ f → (f *ℤ d) ≤ℤ n → pos 1 ≤ℤ d → (q *ℤ d) ≤ℤ (n *ℤ pos 1)
 below_z q f n d h k l =
-    le_by (q ∷ f ∷ n ∷ d ∷ []) ((at 0 ≼ at 1) ∷ (at 1 ⊗ at 3 ≼ at 2) ∷ (lit (pos 1) ≼ at 3) ∷ []) (at 0 ⊗ at 3) (at 2 ⊗ lit (pos 1))
+    le_by (q ∷ f ∷ n ∷ d ∷ []) ((at 0 ≼ at 1) ∷ (at 1 ⊗ at 3 ≼ at 2) ∷ (lit (pos 1) ≼ at 3) ∷ []) (at 0 ⊗ at 3)
+    (at 2 ⊗ lit (pos 1))
     (known 1 ⊞ known 0 ⊠ (known 2 ⊞ times 1)) refl (h, (k, (l, tt)))
 
 above_z : (q f n d : ℤ) → f <ℤ q → n <ℤ (f *ℤ d +ℤ d) → pos 1 ≤ℤ d → (n *ℤ pos 1) <ℤ (q *ℤ d)
@@ -20,7 +21,8 @@ above_z q f n d h k l =
     let h' : (f +ℤ pos 1) ≤ℤ q = omega (arith, ints) in
     let k' : (n +ℤ pos 1) ≤ℤ (f *ℤ d +ℤ d) = omega (arith, ints) in
     let r : (n *ℤ pos 1 +ℤ pos 1) ≤ℤ (q *ℤ d) = le_by (q ∷ f ∷ n ∷ d ∷ [])
-    ((at 1 ⊕ lit (pos 1) ≼ at 0) ∷ (at 2 ⊕ lit (pos 1) ≼ at 1 ⊗ at 3 ⊕ at 3) ∷ (lit (pos 1) ≼ at 3) ∷ []) (at 2 ⊗ lit (pos 1) ⊕ lit (pos 1)) (at 0 ⊗ at 3)
+    ((at 1 ⊕ lit (pos 1) ≼ at 0) ∷ (at 2 ⊕ lit (pos 1) ≼ at 1 ⊗ at 3 ⊕ at 3) ∷ (lit (pos 1) ≼ at 3) ∷ [])
+    (at 2 ⊗ lit (pos 1) ⊕ lit (pos 1)) (at 0 ⊗ at 3)
     (known 1 ⊞ known 0 ⊠ (known 2 ⊞ times 1)) refl (h', (k', (l, tt))) in
     omega (arith, ints, r)
 
@@ -38,7 +40,8 @@ whole_above q a h =
 begun_at : (g : Grid) (a : Fraction) → threshold g (cell_of g a) ≤F a
 unfolding cell_of threshold
 begun_at integers a = whole_below _ a (omega (arith, ints))
-begun_at (multiples m) a = let f = floor_quotient_is (floor a) (m - 1) in whole_below _ a (omega (arith, ints, f.not_above))
+begun_at (multiples m) a = let f = floor_quotient_is (floor a) (m - 1) in
+    whole_below _ a (omega (arith, ints, f.not_above))
 begun_at years a = whole_below _ a (year_is (floor a)).begun
 
 over_at : (g : Grid) (a : Fraction) → a <F threshold g (cell_of g a +ℤ pos 1)

@@ -23,18 +23,22 @@ pub record IsRowOf (y : ℤ) (row : Correction) (test : Correction → Bool) : T
   pub to : y ≤ℤ row.last
   pub passes : test row ≡ true
 
-row_found : (test : Correction → Bool) (rows : List Correction) (y : ℤ) (row : Correction) → list_all test rows ≡ true → row_in rows y ≡ Some row
+row_found : (test : Correction → Bool) (rows : List Correction) (y : ℤ) (row : Correction) → list_all test rows ≡ true
+    → row_in rows y ≡ Some row
     → IsRowOf y row test
 row_found test [] y row h e = absurd (cc)
 row_found test (r ∷ rs) y row h e =
     let b = both (test r) (list_all test rs) h in
     by (is_between r.first r.last y) refl e (λ f. row_found test rs y row b.1 f) b.0
   where
-    by : (t : Bool) → is_between r.first r.last y ≡ t → (if t then Some r else row_in rs y) ≡ Some row → (row_in rs y ≡ Some row → IsRowOf y row test) → test r
+    by : (t : Bool) → is_between r.first r.last y ≡ t → (if t then Some r else row_in rs y) ≡ Some row
+        → (row_in rs y ≡ Some row → IsRowOf y row test) → test r
         ≡ true → IsRowOf y row test
-    by true f e k p = let l = lies r.first r.last y f in let s : r ≡ row = cc in subst (λ z. IsRowOf y z test) s (record { from = l.0; to = l.1; passes = p })
+    by true f e k p = let l = lies r.first r.last y f in let s : r ≡ row = cc in
+        subst (λ z. IsRowOf y z test) s (record { from = l.0; to = l.1; passes = p })
     by false f e k p = k e
 
-pub year_row : (test : Correction → Bool) (y : ℤ) (row : Correction) → list_all test corrections ≡ true → row_of_year y ≡ Some row → IsRowOf y row test
+pub year_row : (test : Correction → Bool) (y : ℤ) (row : Correction) → list_all test corrections ≡ true
+    → row_of_year y ≡ Some row → IsRowOf y row test
 unfolding row_of_year
 year_row test y row h e = row_found test corrections y row h e

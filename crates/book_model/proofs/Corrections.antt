@@ -1,5 +1,6 @@
 -- The polynomial of ΔT, term by term, and the sizes of its powers.
-use Rattle.std.specs.Prelude.{◌≡◌, ℕ, zero, suc, ◌+◌, ◌*◌, ◌^◌, ◌≤◌, ℤ, pos, negsuc, ◌*ℤ◌, ◌≤ℤ◌, unsigned_abs, List, length, slice_index_or, refl}
+use Rattle.std.specs.Prelude.{◌≡◌, ℕ, zero, suc, ◌+◌, ◌*◌, ◌^◌, ◌≤◌, ℤ, pos, negsuc, ◌*ℤ◌, ◌≤ℤ◌, unsigned_abs, List}
+use Rattle.std.specs.Prelude.{length, slice_index_or, refl}
 use Rattle.std.proofs.Common.{arith, add-one}
 use Rattle.std.proofs.lemmas.Int.{ints, unsigned_abs-mul}
 use Rattle.std.proofs.Math.Nat.{mul-le-mul_left, mul-le-mul_right, pow-suc, pow-zero}
@@ -41,15 +42,18 @@ unfolding int_power
 power_more x i = rw add-one refl
 
 size_product : (a b : ℤ) (m n : ℕ) → unsigned_abs a ≤ m → unsigned_abs b ≤ n → unsigned_abs (a *ℤ b) ≤ m * n
-size_product a b m n h k = rw (unsigned_abs-mul a b) (let p = mul-le-mul_right (unsigned_abs b) h in let q = mul-le-mul_left m k in omega (arith, p, q))
+size_product a b m n h k = rw (unsigned_abs-mul a b) (let p = mul-le-mul_right (unsigned_abs b) h in
+    let q = mul-le-mul_left m k in omega (arith, p, q))
 
 -- a number of size m at most has powers of size m^k at most
 pub power_size : (m : ℕ) (x : ℤ) (k : ℕ) → unsigned_abs x ≤ m → unsigned_abs (int_power x k) ≤ m ^ k
 unfolding int_power
 power_size m x zero h = let e : m ^ 0 ≡ 1 = pow-zero m in rw e (omega arith)
-power_size m x (suc k) h = let r = size_product (int_power x k) x (m ^ k) m (power_size m x k h) h in let e : m ^ suc k ≡ m ^ k * m = pow-suc m k in rw e r
+power_size m x (suc k) h = let r = size_product (int_power x k) x (m ^ k) m (power_size m x k h) h in
+    let e : m ^ suc k ≡ m ^ k * m = pow-suc m k in rw e r
 
-pub few_of_two : {A : Type 0} (n : ℕ) (b : Bool) (p q : Program A) → AtMost n p → AtMost n q → AtMost n (if b then p else q)
+pub few_of_two : {A : Type 0} (n : ℕ) (b : Bool) (p q : Program A) → AtMost n p → AtMost n q
+    → AtMost n (if b then p else q)
 few_of_two n true p q h k = h
 few_of_two n false p q h k = k
 
@@ -70,11 +74,14 @@ floor_whole (negsuc n) = omega (arith, ints)
 pub year_of_whole : (d : ℤ) → cell_at years (exactly (whole d)) ≡ Some (year_of_day d)
 unfolding cell_at cell_of
 year_of_whole d = let e : int_eq (year_of_day (floor (whole d))) (year_of_day (floor (whole d)))
-    ≡ true = (Decides-int_eq (year_of_day (floor (whole d))) (year_of_day (floor (whole d)))).1 refl in rw (e, floor_whole d) refl
+    ≡ true = (Decides-int_eq (year_of_day (floor (whole d))) (year_of_day (floor (whole d)))).1 refl in
+    rw (e, floor_whole d) refl
 
 -- the year of a whole day is decided
-pub leads_year : (w : World) (d y : ℤ) (b a : ℕ) → y ≡ year_of_day d → a ≡ next_turn b → Leads w Exact (year_of (integer d)) b a (Ok y)
+pub leads_year : (w : World) (d y : ℤ) (b a : ℕ) → y ≡ year_of_day d → a ≡ next_turn b
+    → Leads w Exact (year_of (integer d)) b a (Ok y)
 unfolding year_of value
 leads_year w d y b a e f =
-    rw (e, f) (leads_cell Year years (integer d) (exactly (whole d)) (year_of_day d) answer (within_refl (exactly (whole d))) (year_of_whole d)
+    rw (e, f) (leads_cell Year years (integer d) (exactly (whole d)) (year_of_day d) answer
+    (within_refl (exactly (whole d))) (year_of_whole d)
     (leads_answer refl))

@@ -7,7 +7,8 @@ use lib.IntN.{neg_ℤ}
 use Rattle.book_model.specs.declared.calendar.Calendar.{Calendar}
 use Rattle.book_model.specs.declared.calendar.Calendar.TheVariants.{Gregorian}
 use Rattle.book_model.specs.declared.request.Fields.{Fields}
-use Rattle.book_model.specs.calendars.Dates.{row_of, field, is_within, are_within, has_day_of_month, may_have, year_number, has_some_year, IsAskable}
+use Rattle.book_model.specs.calendars.Dates.{row_of, field, is_within, are_within, has_day_of_month, may_have}
+use Rattle.book_model.specs.calendars.Dates.{year_number, has_some_year, IsAskable}
 
 -- a field lies within its limits
 pub record LiesWithin (c : Calendar) (f : Fields) (k : ℕ) : Type 0 where
@@ -20,7 +21,8 @@ both true false e = absurd (cc)
 both false q e = absurd (cc)
 
 -- what holds of five fields holds of each
-one_of_five : (test : ℕ → Bool) (k : ℕ) → k < 5 → (test 0 && test 1 && test 2 && test 3 && test 4) ≡ true → test k ≡ true
+one_of_five : (test : ℕ → Bool) (k : ℕ) → k < 5 → (test 0 && test 1 && test 2 && test 3 && test 4) ≡ true
+    → test k ≡ true
 one_of_five test k few h =
     let e = both (test 0 && test 1 && test 2 && test 3) (test 4) h in
     let d = both (test 0 && test 1 && test 2) (test 3) e.0 in
@@ -43,7 +45,8 @@ within_limits c f k few h =
     let counted = both ((f.count == (row_of c).count) && are_within (row_of c) f) (has_day_of_month c f) h in
     let within = both (f.count == (row_of c).count) (are_within (row_of c) f) counted.0 in
     let here : is_within (row_of c) f k ≡ true = one_of_five (is_within (row_of c) f) k few within.1 in
-    let endpoints = both (nat_le (slice_index_or (row_of c).limits k (0, 0)).0 (field f k)) (nat_le (field f k) (slice_index_or (row_of c).limits k (0, 0)).1)
+    let endpoints = both (nat_le (slice_index_or (row_of c).limits k (0, 0)).0 (field f k))
+    (nat_le (field f k) (slice_index_or (row_of c).limits k (0, 0)).1)
     here in
     record { low = grind (arith, nat_tests, endpoints.0); high = grind (arith, nat_tests, endpoints.1) }
 

@@ -1,5 +1,6 @@
 -- A polynomial at a whole number has one fraction for its value, and its decimals are that fraction.
-use Rattle.std.specs.Prelude.{◌≡◌, ℕ, zero, suc, ◌+◌, ◌*◌, ◌^◌, ℤ, pos, ◌+ℤ◌, ◌*ℤ◌, ◌-ℤ◌, Bool, true, false, cond, List, length, slice_index_or, refl}
+use Rattle.std.specs.Prelude.{◌≡◌, ℕ, zero, suc, ◌+◌, ◌*◌, ◌^◌, ℤ, pos, ◌+ℤ◌, ◌*ℤ◌, ◌-ℤ◌, Bool, true, false, cond, List}
+use Rattle.std.specs.Prelude.{length, slice_index_or, refl}
 use Rattle.std.proofs.Common.{arith, ap, ◌∙◌, add-one, [], ◌∷◌}
 use Rattle.std.proofs.lemmas.Int.{ints}
 use Rattle.std.specs.Prelude.{Option, Some, None, SomeIff, IfSome}
@@ -44,11 +45,16 @@ unfolding sum
 sum_exactly a b = refl
 
 -- the value of a polynomial at a whole number
-pub polynomial_exactly : (w : World) (cs : List Frac) (x : ℤ) (n : ℕ) → value w (polynomial_to cs x n) ≡ exactly (exact_to cs x n)
+pub polynomial_exactly : (w : World) (cs : List Frac) (x : ℤ) (n : ℕ) → value w (polynomial_to cs x n) ≡ exactly
+    (exact_to cs x n)
 unfolding value polynomial_to exact_to
 polynomial_exactly w cs x zero = refl
 polynomial_exactly w cs x (suc n) =
-    rw (polynomial_exactly w cs x n, product_exactly (whole (int_power x n)) (fraction_of (slice_index_or cs n no_fraction))) (sum_exactly _ _)
+    rw (
+      polynomial_exactly w cs x n,
+      product_exactly (whole (int_power x n))
+          (fraction_of (slice_index_or cs n no_fraction)),
+    ) (sum_exactly _ _)
 
 -- the next term of the sum
 pub exact_more : (cs : List Frac) (x : ℤ) (n : ℕ) → exact_to cs x (n + 1)
@@ -72,19 +78,28 @@ pub decimal_zero : decimal_11 (pos 0) ≈ whole (pos 0)
 decimal_zero = record { cross = refl }
 
 -- a number of 10^-11 seconds is ΔT in days
-pub seconds_exactly : (w : World) (cs : List Frac) (origin y n : ℤ) → decimal_11 n ≈ exact_to cs (y -ℤ origin) (length cs)
+pub seconds_exactly : (w : World) (cs : List Frac) (origin y n : ℤ) → decimal_11 n ≈ exact_to cs (y -ℤ origin)
+    (length cs)
     → IsNumber (seconds_11 n) (value w (seconds_of cs origin y))
 unfolding value seconds_of polynomial_of times
 seconds_exactly w cs origin y n h =
     let s : times (exact_to cs (y -ℤ origin) (length cs)) (fraction_of SECOND) ≈ seconds_11 n = same_trans
     (times_cong (same_sym h) (same_refl (fraction_of SECOND))) (in_days n) in
-    rw (polynomial_exactly w cs (y -ℤ origin) (length cs), product_exactly (exact_to cs (y -ℤ origin) (length cs)) (fraction_of SECOND)) (s, s)
+    rw (
+      polynomial_exactly w cs (y -ℤ origin) (length cs),
+      product_exactly (exact_to cs (y -ℤ origin) (length cs))
+          (fraction_of SECOND),
+    ) (s, s)
   where
     in_days : (n : ℤ) → times (decimal_11 n) (fraction_of SECOND) ≈ seconds_11 n
-    in_days n = record { cross = ring (n ∷ []) ((at 0 ⊗ lit (pos 1)) ⊗ lit (pos 8640000000000000)) (at 0 ⊗ lit (pos 8640000000000000)) refl }
+    in_days n = record {
+      cross = ring (n ∷ []) ((at 0 ⊗ lit (pos 1)) ⊗ lit (pos 8640000000000000))
+          (at 0 ⊗ lit (pos 8640000000000000)) refl;
+    }
 
 -- a coefficient of this many units, times a power
-pub term_is : (num p n : ℤ) (q b : ℕ) → n ≡ (num *ℤ pos q) *ℤ p → q * suc b ≡ 10 ^ 11 → decimal_11 n ≈ times (whole p) (record { num = num; below = b })
+pub term_is : (num p n : ℤ) (q b : ℕ) → n ≡ (num *ℤ pos q) *ℤ p → q * suc b ≡ 10 ^ 11
+    → decimal_11 n ≈ times (whole p) (record { num = num; below = b })
 unfolding times
 term_is num p n q b e f =
     let g : pos q *ℤ pos (suc b) ≡ pos (10 ^ 11) = ap pos f in
@@ -92,12 +107,14 @@ term_is num p n q b e f =
     record {
       cross = rw z
           (ap (λ t. t *ℤ pos (suc b)) e
-          ∙ ring (num ∷ p ∷ pos q ∷ pos (suc b) ∷ []) (((at 0 ⊗ at 2) ⊗ at 1) ⊗ at 3) ((at 1 ⊗ at 0) ⊗ (at 2 ⊗ at 3)) refl
+          ∙ ring (num ∷ p ∷ pos q ∷ pos (suc b) ∷ []) (((at 0 ⊗ at 2) ⊗ at 1) ⊗ at 3) ((at 1 ⊗ at 0) ⊗ (at 2 ⊗ at 3))
+          refl
           ∙ ap (λ t. (p *ℤ num) *ℤ t) g);
     }
 
 -- what holds of a checked value holds where there is one
-pub checked_holds : {T : Type 0} (o : Option T) (P : Type 0) (v : T) (Q : T → Type 0) → SomeIff o P v → ((n : T) → n ≡ v → Q n) → IfSome o Q
+pub checked_holds : {T : Type 0} (o : Option T) (P : Type 0) (v : T) (Q : T → Type 0) → SomeIff o P v
+    → ((n : T) → n ≡ v → Q n) → IfSome o Q
 checked_holds None P v Q h f = tt
 checked_holds (Some n) P v Q h f = f n h.1
 

@@ -9,7 +9,8 @@ use Rattle.std.proofs.lemmas.Float.{T_from_true}
 use Rattle.exact_math.specs.Fraction.{◌≤F◌}
 use Rattle.exact_math.specs.Interval.{Interval, everything, between}
 use Rattle.exact_math.proofs.Fractions.{le_trans, plus_mono, le_refl}
-use Rattle.book_model.specs.numbers.Bounds.{Bound, unbounded, bounded, IsNarrow, implies, bound_of, at_32, breadth, limits_of, limits_at, limits_36}
+use Rattle.book_model.specs.numbers.Bounds.{Bound, unbounded, bounded, IsNarrow, implies, bound_of, at_32, breadth}
+use Rattle.book_model.specs.numbers.Bounds.{limits_of, limits_at, limits_36}
 use Rattle.book_model.specs.numbers.Expressions.{Expression}
 use Rattle.book_model.specs.numbers.Relations.{Narrow, Keeps}
 
@@ -41,7 +42,8 @@ implied w (bounded a b s k) (bounded c d t m) (between lo hi) e h =
       ordered = h.ordered;
       above = le_trans _ _ _ (at_mono c a (le_true c a p.0)) h.above;
       below = le_trans _ _ _ h.below (at_mono b d (le_true b d p.1));
-      close = le_trans _ _ _ h.close (plus_mono lo lo _ _ (le_refl lo) (wider w s k t m (leb-true s t p.2) (leb-true k m p.3)));
+      close = le_trans _ _ _ h.close
+          (plus_mono lo lo _ _ (le_refl lo) (wider w s k t m (leb-true s t p.2) (leb-true k m p.3)));
     }
 
 pub limits_at_36 : (n : ℕ) → n ≡ 36 → limits_of n ≡ limits_36
@@ -56,14 +58,16 @@ limits_within n a b =
     rw (p, q) refl
 
 -- an enclosure keeps each bound that the computed bound of its expression implies
-pub settled_at : {E : Type 0} (shown : E → Interval) (n w : ℕ) (b : ℕ → Bound) (x : Expression) (y : Bound) (e : E) → implies (bound_of (limits_of n) b x) y
+pub settled_at : {E : Type 0} (shown : E → Interval) (n w : ℕ) (b : ℕ → Bound) (x : Expression) (y : Bound) (e : E)
+    → implies (bound_of (limits_of n) b x) y
     ≡ true
     → Narrow shown (limits_of n) (record { width = w; bounds = b }) x e → IsNarrow w y (shown e)
 unfolding Keeps
 settled_at shown n w b x y e i h = implied w (bound_of (limits_of n) b x) y (shown e) i h.kept
 
 -- the same at scale 2^-36
-pub settled : {E : Type 0} (shown : E → Interval) (n w : ℕ) (b : ℕ → Bound) (x : Expression) (y : Bound) (e : E) → n ≡ 36 → implies (bound_of limits_36 b x) y
+pub settled : {E : Type 0} (shown : E → Interval) (n w : ℕ) (b : ℕ → Bound) (x : Expression) (y : Bound) (e : E)
+    → n ≡ 36 → implies (bound_of limits_36 b x) y
     ≡ true
     → Narrow shown (limits_of n) (record { width = w; bounds = b }) x e → IsNarrow w y (shown e)
 settled shown n w b x y e p i h = settled_at shown n w b x y e (rw (limits_at_36 n p) i) h

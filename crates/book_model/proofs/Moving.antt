@@ -5,7 +5,8 @@ use Rattle.book_model.specs.declared.fact.Fact.{Fact}
 use Rattle.book_model.specs.calendars.Inquiries.{Inquiry, done, ask, facts_over, result_over}
 use Rattle.book_model.specs.calendars.Moving.{moved}
 
-pub moved_result : {A : Type 0} (move : Fact → Fact) (i : Inquiry A) (table : Fact → ℤ) → result_over table (moved move i) ≡ result_over (λ f. table (move f)) i
+pub moved_result : {A : Type 0} (move : Fact → Fact) (i : Inquiry A) (table : Fact → ℤ)
+    → result_over table (moved move i) ≡ result_over (λ f. table (move f)) i
 unfolding moved
 moved_result move (done a) table = refl
 moved_result move (ask f next) table = moved_result move (next (table (move f))) table

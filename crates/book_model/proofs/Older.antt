@@ -1,5 +1,5 @@
--- The runs over some years alone, where they aren't void at the year, are the runs: an undecided test is the same on both sides, a
--- decided one goes on, and a year that isn't known is the void that the premise excludes.
+-- The runs over some years alone, where they aren't void at the year, are the runs: an undecided test is the same on
+-- both sides, a decided one goes on, and a year that isn't known is the void that the premise excludes.
 use Rattle.std.specs.Prelude.{◌≡◌, ℕ, ℤ, Bool, true, false, not, ◌&&◌, if◌then◌else◌, Option, Some, None, refl}
 use Rattle.std.proofs.Common.{ap, ◌∙◌}
 use Rattle.book_model.specs.declared.fact.Fact.{Fact}
@@ -14,17 +14,22 @@ use Rattle.exact_math.specs.Interval.{Interval}
 use Rattle.book_model.specs.calendars.Versions.{fact_days_in, is_value_day}
 use Rattle.book_model.specs.numbers.Expressions.{Expression, World, value, integer, scale}
 use Rattle.book_model.specs.numbers.Fractions.{fraction_of}
-use Rattle.book_model.specs.programs.Programs.{Grid, years, cell_at, compare_at, Program, answer, void, cell, compare, bind, one_side, two_sides, in_cell, is_less, Run, decided, after_cell, after_compare, run, outcome, void_at}
-use Rattle.book_model.specs.sky.Correction.{is_between, Correction, corrections, row_in, row_of_year, year_of, rounded_of}
+use Rattle.book_model.specs.programs.Programs.{Grid, years, cell_at, compare_at, Program, answer, void, cell, compare}
+use Rattle.book_model.specs.programs.Programs.{bind, one_side, two_sides, in_cell, is_less, Run, decided, after_cell}
+use Rattle.book_model.specs.programs.Programs.{after_compare, run, outcome, void_at}
+use Rattle.book_model.specs.sky.Correction.{is_between, Correction, corrections, row_in, row_of_year, year_of}
+use Rattle.book_model.specs.sky.Correction.{rounded_of}
 use Rattle.book_model.specs.sky.Facts.{formula_of, program_of, at_depth, run_of}
 use Rattle.book_model.specs.sky.Kinds.{dt_of}
-use Rattle.book_model.specs.sky.Older.{are_years, over_years, rows_in, has_correction, program_by, run_by, AreComposed, correction_by_version, dt_by_version}
+use Rattle.book_model.specs.sky.Older.{are_years, over_years, rows_in, has_correction, program_by, run_by, AreComposed}
+use Rattle.book_model.specs.sky.Older.{correction_by_version, dt_by_version}
 use Rattle.book_model.specs.sky.Time.{by_row, correction_of_year, correction_at}
 use Rattle.book_model.proofs.OlderRows.{same_row, none_found}
 use Rattle.book_model.proofs.VersionTables.{is_wider, wider_has}
 
 -- ---- each run
-stays_if : {A : Type 0} (w : World) (b : Bool) (p o : Program A) → ((outcome (run w o) ≡ void_at Year → ⊥) → run w o ≡ run w p)
+stays_if : {A : Type 0} (w : World) (b : Bool) (p o : Program A)
+    → ((outcome (run w o) ≡ void_at Year → ⊥) → run w o ≡ run w p)
     → (outcome (run w (if b then void Year else o)) ≡ void_at Year → ⊥) → run w (if b then void Year else o) ≡ run w p
 unfolding run outcome
 stays_if w true p o h k = absurd (k refl)
@@ -38,13 +43,15 @@ stays_cell s g i None m n h k = refl
 stays_cell s g i (Some q) m n h k = ap (decided s (one_side g i) (in_cell q)) (h q k)
 
 stays_compare : {A : Type 0} (s : Site) (i j : Interval) (o : Option Bool) (m n : Bool → Run A)
-    → ((t : Bool) → (outcome (m t) ≡ void_at Year → ⊥) → m t ≡ n t) → (outcome (after_compare s i j o m) ≡ void_at Year → ⊥)
+    → ((t : Bool) → (outcome (m t) ≡ void_at Year → ⊥) → m t ≡ n t)
+    → (outcome (after_compare s i j o m) ≡ void_at Year → ⊥)
     → after_compare s i j o m ≡ after_compare s i j o n
 unfolding after_compare outcome
 stays_compare s i j None m n h k = refl
 stays_compare s i j (Some t) m n h k = ap (decided s (two_sides i j) (is_less t)) (h t k)
 
-stays : {A : Type 0} (known : ℤ → Bool) (w : World) (p : Program A) → (outcome (run w (over_years known p)) ≡ void_at Year → ⊥)
+stays : {A : Type 0} (known : ℤ → Bool) (w : World) (p : Program A)
+    → (outcome (run w (over_years known p)) ≡ void_at Year → ⊥)
     → run w (over_years known p) ≡ run w p
 unfolding over_years run
 stays known w (answer a) k = refl
@@ -53,7 +60,8 @@ stays known w (cell s g x next) k =
     stays_cell s g (value w x) (cell_at g (value w x)) _ (λ q. run w (next q))
     (λ q. stays_if w (are_years g && not (known q)) (next q) (over_years known (next q)) (stays known w (next q))) k
 stays known w (compare s x y next) k =
-    stays_compare s (value w x) (value w y) (compare_at (value w x) (value w y)) _ (λ t. run w (next t)) (λ t. stays known w (next t)) k
+    stays_compare s (value w x) (value w y) (compare_at (value w x) (value w y)) _ (λ t. run w (next t))
+    (λ t. stays known w (next t)) k
 
 -- ---- the run of a fact
 stays_on : {A : Type 0} (known : ℤ → Bool) (w : World) (o t : Bool) (p : Program A) → (o ≡ true → t ≡ true)
@@ -69,10 +77,12 @@ days_wider : (version : Version) → is_wider (FIRST_DAY, LAST_DAY) (fact_days_i
 days_wider One = refl
 days_wider _ = refl
 
-pub older_stays : (version : Version) (n : ℕ) (f : Fact) → (outcome (run_by version n f) ≡ void_at Year → ⊥) → run_by version n f ≡ run_of n f
+pub older_stays : (version : Version) (n : ℕ) (f : Fact) → (outcome (run_by version n f) ≡ void_at Year → ⊥)
+    → run_by version n f ≡ run_of n f
 unfolding run_by program_by run_of program_of
 older_stays version n f k =
-    stays_on (has_correction version) (at_depth n) (is_value_day version f.day) (is_between FIRST_DAY LAST_DAY f.day) (formula_of f.kind f.place f.day)
+    stays_on (has_correction version) (at_depth n) (is_value_day version f.day) (is_between FIRST_DAY LAST_DAY f.day)
+    (formula_of f.kind f.place f.day)
     (wider_has (FIRST_DAY, LAST_DAY) (fact_days_in version) f.day (days_wider version)) k
 
 -- ---- what a formula over some years is made of
@@ -83,10 +93,12 @@ composed_if true p f o e = refl
 composed_if false p f o e = e
 
 -- formulas that go on alike after a test are one
-cell_same : {A : Type 0} (s : Site) (g : Grid) (x : Expression) (m n : ℤ → Program A) → ((q : ℤ) → m q ≡ n q) → cell s g x m ≡ cell s g x n
+cell_same : {A : Type 0} (s : Site) (g : Grid) (x : Expression) (m n : ℤ → Program A) → ((q : ℤ) → m q ≡ n q)
+    → cell s g x m ≡ cell s g x n
 cell_same s g x m n h = λ i. cell s g x (λ q. h q i)
 
-compare_same : {A : Type 0} (s : Site) (x y : Expression) (m n : Bool → Program A) → ((t : Bool) → m t ≡ n t) → compare s x y m ≡ compare s x y n
+compare_same : {A : Type 0} (s : Site) (x y : Expression) (m n : Bool → Program A) → ((t : Bool) → m t ≡ n t)
+    → compare s x y m ≡ compare s x y n
 compare_same s x y m n h = λ i. compare s x y (λ t. h t i)
 
 bind_same : {A B : Type 0} (p : Program A) (f g : A → Program B) → ((a : A) → f a ≡ g a) → bind p f ≡ bind p g
@@ -99,12 +111,17 @@ composed known (answer a) f = refl
 composed known (void s) f = refl
 composed known (cell s g x next) f =
     cell_same s g x _ _
-    (λ q. composed_if (are_years g && not (known q)) (over_years known (next q)) (λ a. over_years known (f a)) (over_years known (bind (next q) f))
+    (λ q. composed_if (are_years g && not (known q)) (over_years known (next q)) (λ a. over_years known (f a))
+    (over_years known (bind (next q) f))
     (composed known (next q) f))
 composed known (compare s x y next) f = compare_same s x y _ _ (λ t. composed known (next t) f)
 
 all_composed : (known : ℤ → Bool) (A : Type 0) → AreComposed known A
-all_composed known A = record { tests = λ p f. composed known p f; numbers = λ p f. composed known p f; expressions = λ p f. composed known p f }
+all_composed known A = record {
+  tests = λ p f. composed known p f;
+  numbers = λ p f. composed known p f;
+  expressions = λ p f. composed known p f;
+}
 
 pub composed_tests : (known : ℤ → Bool) → AreComposed known Bool
 composed_tests known = all_composed known Bool
@@ -122,12 +139,14 @@ over_row known y None = refl
 over_row known y (Some row) = refl
 
 older_at : (version : Version) (y : ℤ)
-    → (if not (has_correction version y) then void Year else over_years (has_correction version) (correction_of_year y)) ≡ correction_by_version version y
+    → (if not (has_correction version y) then void Year else over_years (has_correction version) (correction_of_year y))
+    ≡ correction_by_version version y
 unfolding correction_of_year row_of_year
 older_at version y = by (has_correction version y) refl
   where
     by : (t : Bool) → has_correction version y ≡ t
-        → (if not t then void Year else over_years (has_correction version) (by_row y (row_in corrections y))) ≡ by_row y (row_in (rows_in version) y)
+        → (if not t then void Year else over_years (has_correction version) (by_row y (row_in corrections y))) ≡ by_row
+        y (row_in (rows_in version) y)
     by true h = rw (over_row (has_correction version) y (row_in corrections y), same_row version y h) refl
     by false h = rw (none_found (rows_in version) y h) refl
 
@@ -138,7 +157,8 @@ older_correction version x = cell_same Year years x _ _ (λ y. older_at version 
 
 -- what follows from ΔT, over these years, is what follows from that by the version's rows
 older_then : {A : Type 0} (known : ℤ → Bool) (o : Bool) (p q : Program Expression) (f : Expression → Program A)
-    → ((c : Expression) → over_years known (f c) ≡ f c) → (if not o then void Year else over_years known p) ≡ q → (if not o then void Year else over_years known (bind p f)) ≡ bind q f
+    → ((c : Expression) → over_years known (f c) ≡ f c) → (if not o then void Year else over_years known p) ≡ q
+    → (if not o then void Year else over_years known (bind p f)) ≡ bind q f
 unfolding bind
 older_then known false p q f h e = rw (← e) refl
 older_then known true p q f h e = rw (← e) (composed known p f ∙ bind_same (over_years known p) _ f h)
@@ -151,8 +171,10 @@ pub older_dt : (version : Version) (d : ℤ) → over_years (has_correction vers
 unfolding over_years dt_of year_of bind
 older_dt version d =
     cell_same Year years (integer d) _ _
-    (λ y. older_then (has_correction version) (has_correction version y) (correction_of_year y) (correction_by_version version y)
-    (λ c. rounded_of (scale (fraction_of MILLISECONDS_OF_DAY) c)) (λ c. rounded_over (has_correction version) _) (older_at version y))
+    (λ y. older_then (has_correction version) (has_correction version y) (correction_of_year y)
+    (correction_by_version version y)
+    (λ c. rounded_of (scale (fraction_of MILLISECONDS_OF_DAY) c)) (λ c. rounded_over (has_correction version) _)
+    (older_at version y))
 
 -- ---- the version that is written
 pub written_days : fact_days_in WRITTEN ≡ (FIRST_DAY, LAST_DAY)

@@ -1,5 +1,7 @@
--- The rows of the table of ΔT lie apart, so the rows that a version had give a year that they have the row that all give.
-use Rattle.std.specs.Prelude.{◌≡◌, ℤ, negsuc, ◌≤ℤ◌, ◌<ℤ◌, Bool, true, false, ◌&&◌, ◌||◌, cond, if◌then◌else◌, int_le, int_lt, List, [], ◌∷◌, Some, None, refl}
+-- The rows of the table of ΔT lie apart, so the rows that a version had give a year that they have the row that all
+-- give.
+use Rattle.std.specs.Prelude.{◌≡◌, ℤ, negsuc, ◌≤ℤ◌, ◌<ℤ◌, Bool, true, false, ◌&&◌, ◌||◌, cond, if◌then◌else◌, int_le}
+use Rattle.std.specs.Prelude.{int_lt, List, [], ◌∷◌, Some, None, refl}
 use Rattle.std.specs.List.{filter}
 use Rattle.std.proofs.Common.{arith}
 use Rattle.std.proofs.lemmas.Int.{ints}
@@ -23,7 +25,8 @@ record IsApart (low : ℤ) (row : Correction) (rows : List Correction) : Type 0 
   order : row.first ≤ℤ row.last
   rest : are_apart row.last rows ≡ true
 
-is_apart : (low : ℤ) (row : Correction) (rows : List Correction) → are_apart low (row ∷ rows) ≡ true → IsApart low row rows
+is_apart : (low : ℤ) (row : Correction) (rows : List Correction) → are_apart low (row ∷ rows) ≡ true
+    → IsApart low row rows
 is_apart low row rows e =
     let a = both (int_lt low row.first) _ e in
     let b = both (int_le row.first row.last) _ a.1 in
@@ -37,7 +40,8 @@ below_no : (low high z : ℤ) → z <ℤ low → is_between low high z ≡ false
 below_no low high z h = grind (arith, ints, h)
 
 -- a year before all rows is in none of a version's
-none_before : (version : Version) (low y : ℤ) (rows : List Correction) → are_apart low rows ≡ true → y ≤ℤ low → have_year (older version rows) y ≡ false
+none_before : (version : Version) (low y : ℤ) (rows : List Correction) → are_apart low rows ≡ true → y ≤ℤ low
+    → have_year (older version rows) y ≡ false
 none_before version low y [] e h = refl
 none_before version low y (row ∷ rows) e h =
     let a = is_apart low row rows e in
@@ -51,24 +55,29 @@ none_before version low y (row ∷ rows) e h =
     by false f g = g
 
 -- a year that a version's rows have has the same row among all
-same_among : (version : Version) (low y : ℤ) (rows : List Correction) → are_apart low rows ≡ true → have_year (older version rows) y ≡ true
+same_among : (version : Version) (low y : ℤ) (rows : List Correction) → are_apart low rows ≡ true
+    → have_year (older version rows) y ≡ true
     → row_in rows y ≡ row_in (older version rows) y
 same_among version low y [] e h = refl
 same_among version low y (row ∷ rows) e h =
     let a = is_apart low row rows e in
-    by (has_since version row.since) (is_between row.first row.last y) refl (λ g. none_before version row.last y rows a.rest (lies row.first row.last y g).1)
+    by (has_since version row.since) (is_between row.first row.last y) refl
+    (λ g. none_before version row.last y rows a.rest (lies row.first row.last y g).1)
     (same_among version row.last y rows a.rest) h
   where
-    by : (s t : Bool) → is_between row.first row.last y ≡ t → (is_between row.first row.last y ≡ true → have_year (older version rows) y ≡ false)
+    by : (s t : Bool) → is_between row.first row.last y ≡ t
+        → (is_between row.first row.last y ≡ true → have_year (older version rows) y ≡ false)
         → (have_year (older version rows) y ≡ true → row_in rows y ≡ row_in (older version rows) y)
         → have_year (cond s (row ∷ older version rows) (older version rows)) y ≡ true
-        → (if is_between row.first row.last y then Some row else row_in rows y) ≡ row_in (cond s (row ∷ older version rows) (older version rows)) y
+        → (if is_between row.first row.last y then Some row else row_in rows y) ≡ row_in
+        (cond s (row ∷ older version rows) (older version rows)) y
     by true true f g k m = rw f refl
     by true false f g k m = rw f (k (rw f at m))
     by false true f g k m = let n = g f in absurd (cc)
     by false false f g k m = rw f (k m)
 
-pub same_row : (version : Version) (y : ℤ) → has_correction version y ≡ true → row_in corrections y ≡ row_in (rows_in version) y
+pub same_row : (version : Version) (y : ℤ) → has_correction version y ≡ true
+    → row_in corrections y ≡ row_in (rows_in version) y
 same_row version y h = same_among version (negsuc 9999) y corrections rows_apart h
 
 -- a year that rows haven't has none of them
@@ -76,6 +85,7 @@ pub none_found : (rows : List Correction) (y : ℤ) → have_year rows y ≡ fal
 none_found [] y h = refl
 none_found (row ∷ rows) y h = by (is_between row.first row.last y) (none_found rows y) h
   where
-    by : (t : Bool) → (have_year rows y ≡ false → row_in rows y ≡ None) → (t || have_year rows y) ≡ false → (if t then Some row else row_in rows y) ≡ None
+    by : (t : Bool) → (have_year rows y ≡ false → row_in rows y ≡ None) → (t || have_year rows y) ≡ false
+        → (if t then Some row else row_in rows y) ≡ None
     by true f k = absurd (cc)
     by false f k = f k

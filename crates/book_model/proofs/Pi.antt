@@ -5,7 +5,8 @@ use Rattle.exact_math.specs.Fraction.{Fraction, ◌≤F◌, whole, times, plus, 
 use Rattle.exact_math.specs.Interval.{Interval, everything, between, IsProper, AreWithin, ◌⊆◌, negative, sum}
 use Rattle.exact_math.specs.Sums.{one_over, lower, upper, alternating}
 use Rattle.exact_math.proofs.Ring.{at, lit, ◌⊗◌}
-use Rattle.exact_math.proofs.Intervals.{within_trans, within_refl, sum_within, negative_within, plus_proper, negative_proper}
+use Rattle.exact_math.proofs.Intervals.{within_trans, within_refl, sum_within, negative_within, plus_proper}
+use Rattle.exact_math.proofs.Intervals.{negative_proper}
 use Rattle.exact_math.proofs.Certificates.{◌≼◌, known, ◌⊠◌, le_by}
 use Rattle.exact_math.proofs.Alternating.{sums_nested, sum_endpoints_in_order}
 use Rattle.book_model.specs.numbers.Series.{arctan_term, arctan_at, scaled, pi_at}
@@ -18,7 +19,8 @@ interval_endpoints k everything (between c d) h = absurd h
 interval_endpoints k (between a b) (between c d) h = (by_natural c a h.0, by_natural b d h.1)
   where
     by_natural : (x y : Fraction) → x ≤F y → times (whole (pos k)) x ≤F times (whole (pos k)) y
-    by_natural x y h = le_by (whole (pos k) ∷ x ∷ y ∷ []) ((lit (pos 0) ≼ at 0) ∷ (at 1 ≼ at 2) ∷ []) (at 0 ⊗ at 1) (at 0 ⊗ at 2) (known 0 ⊠ known 1) refl
+    by_natural x y h = le_by (whole (pos k) ∷ x ∷ y ∷ []) ((lit (pos 0) ≼ at 0) ∷ (at 1 ≼ at 2) ∷ []) (at 0 ⊗ at 1)
+        (at 0 ⊗ at 2) (known 0 ⊠ known 1) refl
         (record { cross = omega (arith, ints) }, (h, tt))
 
 pub scaled_within : (k : ℕ) {i j : Interval} → i ⊆ j → scaled k i ⊆ scaled k j
@@ -38,7 +40,8 @@ pi_deeper n =
 
 pub pi_by : (k n m : ℕ) → m ≡ k + n → pi_at m ⊆ pi_at n
 pi_by zero n m e = subst (λ x. pi_at x ⊆ pi_at n) (sym (e ∙ omega arith)) (within_refl (pi_at n))
-pi_by (suc k) n m e = subst (λ x. pi_at x ⊆ pi_at n) (sym (e ∙ omega arith)) (within_trans (pi_deeper (k + n)) (pi_by k n (k + n) refl))
+pi_by (suc k) n m e = subst (λ x. pi_at x ⊆ pi_at n) (sym (e ∙ omega arith))
+    (within_trans (pi_deeper (k + n)) (pi_by k n (k + n) refl))
 
 pub pi_at_least : (n m : ℕ) → n ≤ m → pi_at m ⊆ pi_at n
 pi_at_least n m h = pi_by (m - n) n m (omega arith)
@@ -47,18 +50,21 @@ pi_at_least n m h = pi_by (m - n) n m (omega arith)
 pub scaled_proper : (k : ℕ) (i : Interval) → IsProper i → IsProper (scaled k i)
 unfolding scaled
 scaled_proper k everything p = tt
-scaled_proper k (between a b) p = le_by (whole (pos k) ∷ a ∷ b ∷ []) ((lit (pos 0) ≼ at 0) ∷ (at 1 ≼ at 2) ∷ []) (at 0 ⊗ at 1) (at 0 ⊗ at 2) (known 0 ⊠ known 1)
+scaled_proper k (between a b) p = le_by (whole (pos k) ∷ a ∷ b ∷ []) ((lit (pos 0) ≼ at 0) ∷ (at 1 ≼ at 2) ∷ [])
+    (at 0 ⊗ at 1) (at 0 ⊗ at 2) (known 0 ⊠ known 1)
     refl (record { cross = omega (arith, ints) }, (p, tt))
 
 arctan_proper : (n m : ℕ) → 1 ≤ m → IsProper (arctan_at n (one_over m))
-arctan_proper n m h = sum_endpoints_in_order n (arctan_term (one_over m)) ((arctan_halving (one_over m) (small_one_over m h)).nonneg (suc n))
+arctan_proper n m h = sum_endpoints_in_order n (arctan_term (one_over m))
+    ((arctan_halving (one_over m) (small_one_over m h)).nonneg (suc n))
 
 pub pi_proper : (n : ℕ) → IsProper (pi_at n)
 unfolding pi_at
 pi_proper n =
     plus_proper (scaled 16 (arctan_at n (one_over 4))) (negative (scaled 4 (arctan_at n (one_over 238))))
     (scaled_proper 16 (arctan_at n (one_over 4)) (arctan_proper n 4 (omega arith)))
-    (negative_proper (scaled 4 (arctan_at n (one_over 238))) (scaled_proper 4 (arctan_at n (one_over 238)) (arctan_proper n 238 (omega arith))))
+    (negative_proper (scaled 4 (arctan_at n (one_over 238)))
+    (scaled_proper 4 (arctan_at n (one_over 238)) (arctan_proper n 238 (omega arith))))
 
 -- ---- its number, by computation
 abbrev pub binary : ℕ → Fraction
@@ -73,7 +79,8 @@ pi_number n h = within_trans (pi_at_least 12 n h) pi_at_12
 
 -- ---- the arctangents nest by themselves
 arctan_by : (k n m : ℕ) (x : Fraction) → IsUpTo 1 2 x → m ≡ k + n → arctan_at m x ⊆ arctan_at n x
-arctan_by zero n m x w e = subst (λ z. arctan_at z x ⊆ arctan_at n x) (sym (e ∙ omega arith)) (within_refl (arctan_at n x))
+arctan_by zero n m x w e = subst (λ z. arctan_at z x ⊆ arctan_at n x) (sym (e ∙ omega arith))
+    (within_refl (arctan_at n x))
 arctan_by (suc k) n m x w e = subst (λ z. arctan_at z x ⊆ arctan_at n x) (sym (e ∙ omega arith))
     (within_trans (arctan_deeper (k + n) x w) (arctan_by k n (k + n) x w refl))
 

@@ -1,5 +1,6 @@
 -- Roots on the grid of 2^-2n: they are the greatest and the least of their kind, and they nest.
-use Rattle.std.proofs.Common.{◌≡◌, ℕ, zero, suc, ◌+◌, ◌-◌, ◌*◌, ◌/◌, ◌^◌, ◌≤◌, ◌<◌, refl, sym, ◌∙◌, ap, subst, arith, Bool, true, false, cond, ℤ, pos, negsuc, ◌*ℤ◌, ◌≤ℤ◌, ◌⊎◌, inl, inr, [], ◌∷◌}
+use Rattle.std.proofs.Common.{◌≡◌, ℕ, zero, suc, ◌+◌, ◌-◌, ◌*◌, ◌/◌, ◌^◌, ◌≤◌, ◌<◌, refl, sym, ◌∙◌, ap, subst, arith}
+use Rattle.std.proofs.Common.{Bool, true, false, cond, ℤ, pos, negsuc, ◌*ℤ◌, ◌≤ℤ◌, ◌⊎◌, inl, inr, [], ◌∷◌}
 use Rattle.std.specs.Prelude.{nat_le}
 use Rattle.std.proofs.lemmas.Int.{ints}
 use Rattle.std.proofs.lemmas.Bool.{leb-true, leb-false}
@@ -10,7 +11,8 @@ use Rattle.exact_math.proofs.Fractions.{le_trans, den_product, by_cross}
 use Rattle.exact_math.proofs.Ring.{at, lit, ◌⊗◌}
 use Rattle.exact_math.proofs.Certificates.{zero_F, ◌≼◌, known, ◌⊞◌, ◌⊠◌, natural, le_by}
 use Rattle.exact_math.proofs.Narrowing.{Narrowing}
-use Rattle.book_model.specs.numbers.Roots.{root_below, root_above, root_by_digits, on_grid, natural_part, not_negative, root_low, root_high, root_of, IsGreatestRoot, IsLeastRoot}
+use Rattle.book_model.specs.numbers.Roots.{root_below, root_above, root_by_digits, on_grid, natural_part, not_negative}
+use Rattle.book_model.specs.numbers.Roots.{root_low, root_high, root_of, IsGreatestRoot, IsLeastRoot}
 
 -- ---- whole numbers
 pub record IsRoot (m r : ℕ) : Type 0 where
@@ -18,20 +20,25 @@ pub record IsRoot (m r : ℕ) : Type 0 where
   pub next : m < suc r * suc r
 
 at_step : (m r : ℕ) (t : Bool) → IsRoot m r → nat_le (suc r * suc r) (suc m) ≡ t → IsRoot (suc m) (cond t (suc r) r)
-at_step m r true h e = let l = leb-true (suc r * suc r) (suc m) e in record { under = l; next = omega (arith, h.under, h.next) }
-at_step m r false h e = let l = leb-false (suc r * suc r) (suc m) e in record { under = omega (arith, h.under, h.next); next = l }
+at_step m r true h e = let l = leb-true (suc r * suc r) (suc m) e in
+    record { under = l; next = omega (arith, h.under, h.next) }
+at_step m r false h e = let l = leb-false (suc r * suc r) (suc m) e in
+    record { under = omega (arith, h.under, h.next); next = l }
 
 root_below_is : (m : ℕ) → IsRoot m (root_below m)
 unfolding root_below
 root_below_is zero = record { under = omega arith; next = omega arith }
-root_below_is (suc m) = at_step m (root_below m) (nat_le (suc (root_below m) * suc (root_below m)) (suc m)) (root_below_is m) refl
+root_below_is (suc m) = at_step m (root_below m) (nat_le (suc (root_below m) * suc (root_below m)) (suc m))
+    (root_below_is m) refl
 
 -- digit by digit
 digit_step : (m q r : ℕ) (t : Bool) → q * 4 ≤ m → m < q * 4 + 4 → IsRoot q r → nat_le (suc (2 * r) * suc (2 * r)) m ≡ t
     → IsRoot m (cond t (suc (2 * r)) (2 * r))
-digit_step m q r true a b h e = let l = leb-true (suc (2 * r) * suc (2 * r)) m e in let u = h.under in let n = h.next in record
+digit_step m q r true a b h e = let l = leb-true (suc (2 * r) * suc (2 * r)) m e in let u = h.under in let n = h.next in
+    record
     { under = l; next = omega (arith, a, b, u, n) }
-digit_step m q r false a b h e = let l = leb-false (suc (2 * r) * suc (2 * r)) m e in let u = h.under in let n = h.next in record
+digit_step m q r false a b h e = let l = leb-false (suc (2 * r) * suc (2 * r)) m e in let u = h.under in
+    let n = h.next in record
     { under = omega (arith, a, b, u, n); next = l }
 
 pub digits_are : (j m : ℕ) → m < 4 ^ j → IsRoot m (root_by_digits j m)
@@ -41,7 +48,8 @@ digits_are (suc j) m h =
     let c : 4 ^ suc j ≡ 4 * 4 ^ j = omega arith in
     let a : (m / 4) * 4 ≤ m = omega arith in
     let b : m < (m / 4) * 4 + 4 = omega arith in
-    digit_step m (m / 4) (root_by_digits j (m / 4)) (nat_le (suc (2 * root_by_digits j (m / 4)) * suc (2 * root_by_digits j (m / 4))) m) a b
+    digit_step m (m / 4) (root_by_digits j (m / 4))
+    (nat_le (suc (2 * root_by_digits j (m / 4)) * suc (2 * root_by_digits j (m / 4))) m) a b
     (digits_are j (m / 4) (omega (arith, h, c, a, b))) refl
 
 squares : (j k : ℕ) → j ≤ k → j * j ≤ k * k
@@ -55,7 +63,8 @@ below_reaches m k h = by_split (split k (root_below m))
   where
     by_split : (k ≤ root_below m) ⊎ (suc (root_below m) ≤ k) → k ≤ root_below m
     by_split (inl l) = l
-    by_split (inr l) = let s = squares (suc (root_below m)) k l in let n = (root_below_is m).next in absurd (omega (arith, s, n, h))
+    by_split (inr l) = let s = squares (suc (root_below m)) k l in let n = (root_below_is m).next in
+        absurd (omega (arith, s, n, h))
 
 pub above_holds : (m : ℕ) → m ≤ root_above m * root_above m
 unfolding root_above
@@ -69,7 +78,8 @@ above_least (suc m) k h = by_split (split (suc (root_below m)) k)
   where
     by_split : (suc (root_below m) ≤ k) ⊎ (suc k ≤ suc (root_below m)) → suc (root_below m) ≤ k
     by_split (inl l) = l
-    by_split (inr l) = let s = squares k (root_below m) (omega (arith, l)) in let n = (root_below_is m).under in absurd (omega (arith, s, n, h))
+    by_split (inr l) = let s = squares k (root_below m) (omega (arith, l)) in let n = (root_below_is m).under in
+        absurd (omega (arith, s, n, h))
 
 -- ---- on the grid
 grid_positive : (n : ℕ) → suc (4 ^ n - 1) ≡ 4 ^ n
@@ -92,18 +102,23 @@ squared_den n = den_product (4 ^ n - 1) (4 ^ n - 1) ∙ by_powers n
     by_powers n = rw (grid_positive n) (ap pos (fourths n))
 
 -- the square of k / 2^2n is at most N / (d + 1)
-square_under : (n k N d : ℕ) → k * k ≤ (N * 16 ^ n) / suc d → times (on_grid n k) (on_grid n k) ≤F record { num = pos N; below = d }
+square_under : (n k N d : ℕ) → k * k ≤ (N * 16 ^ n) / suc d
+    → times (on_grid n k) (on_grid n k) ≤F record { num = pos N; below = d }
 unfolding times
 square_under n k N d h =
-    by_cross (times (on_grid n k) (on_grid n k)) (record { num = pos N; below = d }) (pos (16 ^ n)) (pos (suc d)) (squared_den n) refl
-    (let m = mul-le-mul_left (suc d) h in let q : ((N * 16 ^ n) / suc d) * suc d ≤ N * 16 ^ n = omega arith in omega (arith, ints, m, q))
+    by_cross (times (on_grid n k) (on_grid n k)) (record { num = pos N; below = d }) (pos (16 ^ n)) (pos (suc d))
+    (squared_den n) refl
+    (let m = mul-le-mul_left (suc d) h in let q : ((N * 16 ^ n) / suc d) * suc d ≤ N * 16 ^ n = omega arith in
+    omega (arith, ints, m, q))
 
-under_square : (n k N d : ℕ) → times (on_grid n k) (on_grid n k) ≤F record { num = pos N; below = d } → k * k ≤ (N * 16 ^ n) / suc d
+under_square : (n k N d : ℕ) → times (on_grid n k) (on_grid n k) ≤F record { num = pos N; below = d }
+    → k * k ≤ (N * 16 ^ n) / suc d
 unfolding times
 under_square n k N d h =
     let e = squared_den n in
     let c = h.cross in
-    let l : (pos (k * k) *ℤ pos (suc d)) ≤ℤ (pos N *ℤ pos (16 ^ n)) = subst (λ z. (pos (k * k) *ℤ pos (suc d)) ≤ℤ (pos N *ℤ z)) e c in
+    let l : (pos (k * k) *ℤ pos (suc d)) ≤ℤ (pos N *ℤ pos (16 ^ n)) =
+    subst (λ z. (pos (k * k) *ℤ pos (suc d)) ≤ℤ (pos N *ℤ z)) e c in
     by_quotient (N * 16 ^ n) (k * k) d (omega (arith, ints, l))
   where
     by_quotient : (a b d : ℕ) → b * suc d ≤ a → b ≤ a / suc d
@@ -111,7 +126,8 @@ under_square n k N d h =
       where
         by_split : (b ≤ a / suc d) ⊎ (suc (a / suc d) ≤ b) → b ≤ a / suc d
         by_split (inl l) = l
-        by_split (inr l) = let m = mul-le-mul_left (suc d) l in let q : a < (a / suc d + 1) * suc d = omega arith in absurd (omega (arith, m, q, h))
+        by_split (inr l) = let m = mul-le-mul_left (suc d) l in let q : a < (a / suc d + 1) * suc d = omega arith in
+            absurd (omega (arith, m, q, h))
 
 abbrev count_low : ℕ → Fraction → ℕ
 count_low n a = root_below ((natural_part a.num * 16 ^ n) / suc a.below)
@@ -126,23 +142,29 @@ pub low_is : (n : ℕ) (a : Fraction) → IsGreatestRoot n (not_negative a) (roo
 unfolding root_low
 low_is n a = record {
   multiple = (count_low n a, refl);
-  square = square_under n (count_low n a) (natural_part a.num) a.below ((root_below_is ((natural_part a.num * 16 ^ n) / suc a.below)).under);
+  square = square_under n (count_low n a) (natural_part a.num) a.below
+      ((root_below_is ((natural_part a.num * 16 ^ n) / suc a.below)).under);
   greatest = λ k h. grid_mono n k (count_low n a) (below_reaches _ k (under_square n k (natural_part a.num) a.below h));
 }
 
 -- the square of k / 2^2n is at least N / (d + 1)
-square_over : (n k N d : ℕ) → (N * 16 ^ n + d) / suc d ≤ k * k → record { num = pos N; below = d } ≤F times (on_grid n k) (on_grid n k)
+square_over : (n k N d : ℕ) → (N * 16 ^ n + d) / suc d ≤ k * k → record { num = pos N; below = d } ≤F times
+    (on_grid n k) (on_grid n k)
 unfolding times
 square_over n k N d h =
-    by_cross (record { num = pos N; below = d }) (times (on_grid n k) (on_grid n k)) (pos (suc d)) (pos (16 ^ n)) refl (squared_den n)
-    (let m = mul-le-mul_left (suc d) h in let q : N * 16 ^ n ≤ ((N * 16 ^ n + d) / suc d) * suc d = omega arith in omega (arith, ints, m, q))
+    by_cross (record { num = pos N; below = d }) (times (on_grid n k) (on_grid n k)) (pos (suc d)) (pos (16 ^ n)) refl
+    (squared_den n)
+    (let m = mul-le-mul_left (suc d) h in let q : N * 16 ^ n ≤ ((N * 16 ^ n + d) / suc d) * suc d = omega arith in
+    omega (arith, ints, m, q))
 
-over_square : (n k N d : ℕ) → record { num = pos N; below = d } ≤F times (on_grid n k) (on_grid n k) → (N * 16 ^ n + d) / suc d ≤ k * k
+over_square : (n k N d : ℕ) → record { num = pos N; below = d } ≤F times (on_grid n k) (on_grid n k)
+    → (N * 16 ^ n + d) / suc d ≤ k * k
 unfolding times
 over_square n k N d h =
     let e = squared_den n in
     let c = h.cross in
-    let l : (pos N *ℤ pos (16 ^ n)) ≤ℤ (pos (k * k) *ℤ pos (suc d)) = subst (λ z. (pos N *ℤ z) ≤ℤ (pos (k * k) *ℤ pos (suc d))) e c in
+    let l : (pos N *ℤ pos (16 ^ n)) ≤ℤ (pos (k * k) *ℤ pos (suc d)) =
+    subst (λ z. (pos N *ℤ z) ≤ℤ (pos (k * k) *ℤ pos (suc d))) e c in
     by_quotient (N * 16 ^ n) (k * k) d (omega (arith, ints, l))
   where
     by_quotient : (a b d : ℕ) → a ≤ b * suc d → (a + d) / suc d ≤ b
@@ -150,13 +172,15 @@ over_square n k N d h =
       where
         by_split : ((a + d) / suc d ≤ b) ⊎ (suc b ≤ (a + d) / suc d) → (a + d) / suc d ≤ b
         by_split (inl l) = l
-        by_split (inr l) = let m = mul-le-mul_left (suc d) l in let q : ((a + d) / suc d) * suc d ≤ a + d = omega arith in absurd (omega (arith, m, q, h))
+        by_split (inr l) = let m = mul-le-mul_left (suc d) l in let q : ((a + d) / suc d) * suc d ≤ a + d =
+            omega arith in absurd (omega (arith, m, q, h))
 
 pub high_is : (n : ℕ) (a : Fraction) → IsLeastRoot n (not_negative a) (root_high n a)
 unfolding root_high
 high_is n a = record {
   multiple = (count_high n a, refl);
-  square = square_over n (count_high n a) (natural_part a.num) a.below (above_holds ((natural_part a.num * 16 ^ n + a.below) / suc a.below));
+  square = square_over n (count_high n a) (natural_part a.num) a.below
+      (above_holds ((natural_part a.num * 16 ^ n + a.below) / suc a.below));
   least = λ k h. grid_mono n (count_high n a) k (above_least _ k (over_square n k (natural_part a.num) a.below h));
 }
 
@@ -177,14 +201,16 @@ low_mono n a b h =
     let x = low_is n a in
     let e = x.multiple.1 in
     subst (λ z. z ≤F root_low n b) (sym e)
-    ((low_is n b).greatest x.multiple.0 (le_trans _ _ _ (subst (λ z. times z z ≤F not_negative a) e x.square) (not_negative_mono a b h)))
+    ((low_is n b).greatest x.multiple.0 (le_trans _ _ _ (subst (λ z. times z z ≤F not_negative a) e x.square)
+    (not_negative_mono a b h)))
 
 high_mono : (n : ℕ) (a b : Fraction) → a ≤F b → root_high n a ≤F root_high n b
 high_mono n a b h =
     let x = high_is n b in
     let e = x.multiple.1 in
     subst (λ z. root_high n a ≤F z) (sym e)
-    ((high_is n a).least x.multiple.0 (le_trans _ _ _ (not_negative_mono a b h) (subst (λ z. not_negative b ≤F times z z) e x.square)))
+    ((high_is n a).least x.multiple.0
+    (le_trans _ _ _ (not_negative_mono a b h) (subst (λ z. not_negative b ≤F times z z) e x.square)))
 
 -- k / 2^2n is 4 k / 2^(2n + 2)
 finer : (n k : ℕ) → (on_grid n k ≤F on_grid (suc n) (4 * k)) × (on_grid (suc n) (4 * k) ≤F on_grid n k)
@@ -196,7 +222,8 @@ finer n k =
     (record { cross = rw d (omega (arith, ints)) }, record { cross = rw d (omega (arith, ints)) })
 
 squares_mono : (x y : Fraction) → zero_F ≤F x → x ≤F y → times x x ≤F times y y
-squares_mono x y h k = le_by (x ∷ y ∷ []) ((lit (pos 0) ≼ at 0) ∷ (at 0 ≼ at 1) ∷ []) (at 0 ⊗ at 0) (at 1 ⊗ at 1) (known 1 ⊠ (known 1 ⊞ natural 2 ⊠ known 0))
+squares_mono x y h k = le_by (x ∷ y ∷ []) ((lit (pos 0) ≼ at 0) ∷ (at 0 ≼ at 1) ∷ []) (at 0 ⊗ at 0) (at 1 ⊗ at 1)
+    (known 1 ⊠ (known 1 ⊞ natural 2 ⊠ known 0))
     refl (h, (k, tt))
 
 grid_nonneg : (n k : ℕ) → zero_F ≤F on_grid n k
@@ -221,13 +248,16 @@ high_falls n a =
     let f = finer n k in
     subst (λ z. root_high (suc n) a ≤F z) (sym e)
     (le_trans _ _ _
-    ((high_is (suc n) a).least (4 * k) (le_trans _ _ _ (subst (λ z. not_negative a ≤F times z z) e x.square) (squares_mono _ _ (grid_nonneg n k) f.0)))
+    ((high_is (suc n) a).least (4 * k) (le_trans _ _ _ (subst (λ z. not_negative a ≤F times z z) e x.square)
+    (squares_mono _ _ (grid_nonneg n k) f.0)))
     f.1)
 
 no_greater_square : (j k d : ℕ) → suc k ≤ j → (pos (j * j) *ℤ pos (suc d)) ≤ℤ (pos (k * k) *ℤ pos (suc d)) → ⊥
-no_greater_square j k d l c = let s = squares (suc k) j l in let m = mul-le-mul_left (suc d) s in omega (arith, ints, c, m)
+no_greater_square j k d l c = let s = squares (suc k) j l in let m = mul-le-mul_left (suc d) s in
+    omega (arith, ints, c, m)
 
-from_squares : (n j k : ℕ) → times (on_grid n j) (on_grid n j) ≤F times (on_grid n k) (on_grid n k) → on_grid n j ≤F on_grid n k
+from_squares : (n j k : ℕ) → times (on_grid n j) (on_grid n j) ≤F times (on_grid n k) (on_grid n k)
+    → on_grid n j ≤F on_grid n k
 unfolding times
 from_squares n j k h = by_split (split j k)
   where
@@ -241,7 +271,8 @@ low_high n a =
     let y = low_is n a in
     subst (λ z. z ≤F root_high n a) (sym y.multiple.1) (subst (λ z. on_grid n y.multiple.0 ≤F z) (sym x.multiple.1)
     (from_squares n y.multiple.0 x.multiple.0
-    (le_trans _ _ _ (subst (λ z. times z z ≤F not_negative a) y.multiple.1 y.square) (subst (λ z. not_negative a ≤F times z z) x.multiple.1 x.square))))
+    (le_trans _ _ _ (subst (λ z. times z z ≤F not_negative a) y.multiple.1 y.square)
+    (subst (λ z. not_negative a ≤F times z z) x.multiple.1 x.square))))
 
 root_proper : (n : ℕ) (i : Interval) → IsProper i → IsProper (root_of n i)
 unfolding root_of

@@ -4,12 +4,14 @@ use Rattle.std.proofs.lemmas.Int.{ints}
 use Rattle.exact_math.specs.Fraction.{Fraction, ◌≤F◌, times, is_at_most}
 use Rattle.exact_math.specs.Interval.{Interval, everything, between, IsProper, AreWithin, ◌⊆◌, hull}
 use Rattle.exact_math.specs.Sums.{lower, upper}
-use Rattle.exact_math.proofs.Fractions.{le_refl, le_trans, at_most_true, smaller_first, smaller_second, larger_first, larger_second}
+use Rattle.exact_math.proofs.Fractions.{le_refl, le_trans, at_most_true, smaller_first, smaller_second, larger_first}
+use Rattle.exact_math.proofs.Fractions.{larger_second}
 use Rattle.exact_math.proofs.Intervals.{within_trans, within_everything}
 use Rattle.exact_math.proofs.Certificates.{zero_F}
 use Rattle.exact_math.proofs.Hulls.{true_at_most}
 use Rattle.exact_math.proofs.Narrowing.{Narrowing}
-use Rattle.exact_math.proofs.Alternating.{sums_nested, later_sums_nested, lower_rises, upper_rises, lower_falls, upper_falls, sum_endpoints_in_order}
+use Rattle.exact_math.proofs.Alternating.{sums_nested, later_sums_nested, lower_rises, upper_rises, lower_falls}
+use Rattle.exact_math.proofs.Alternating.{upper_falls, sum_endpoints_in_order}
 use Rattle.book_model.specs.numbers.Series.{is_inside, sine_term, cosine_term, four_fifths, sine_series, cosine_series}
 use Rattle.book_model.proofs.Terms.{IsUpTo, sine_halving, sine_rising, cosine_halving, cosine_falling}
 
@@ -17,8 +19,10 @@ pub record Inside (lo hi a b : Fraction) : Type 0 where
   pub above : lo ≤F a
   pub below : b ≤F hi
 
-inside_by : (lo hi a b : Fraction) (s t : Bool) → is_at_most lo a ≡ s → is_at_most b hi ≡ t → cond s t false ≡ true → Inside lo hi a b
-inside_by lo hi a b true t e f h = record { above = at_most_true lo a e; below = at_most_true b hi (sym (sym f ∙ refl) ∙ h) }
+inside_by : (lo hi a b : Fraction) (s t : Bool) → is_at_most lo a ≡ s → is_at_most b hi ≡ t → cond s t false ≡ true
+    → Inside lo hi a b
+inside_by lo hi a b true t e f h =
+    record { above = at_most_true lo a e; below = at_most_true b hi (sym (sym f ∙ refl) ∙ h) }
 inside_by lo hi a b false t e f h = absurd (cc)
 
 pub inside_out : (lo hi a b : Fraction) → is_inside lo hi a b ≡ true → Inside lo hi a b
@@ -28,7 +32,8 @@ pub inside_in : (lo hi a b : Fraction) → Inside lo hi a b → is_inside lo hi 
 inside_in lo hi a b h = rw (true_at_most lo a h.above, true_at_most b hi h.below) refl
 
 -- an interval or, where the test fails, everything
-pub by_guard : (s t : Bool) (i j : Interval) → (t ≡ true → (s ≡ true) × (i ⊆ j)) → cond s i everything ⊆ cond t j everything
+pub by_guard : (s t : Bool) (i j : Interval) → (t ≡ true → (s ≡ true) × (i ⊆ j))
+    → cond s i everything ⊆ cond t j everything
 by_guard s false i j h = record { endpoints = tt }
 by_guard true true i j h = (h refl).1
 by_guard false true i j h = absurd (let e = (h refl).0 in cc)
@@ -47,7 +52,8 @@ pub record Points (a b c d : Fraction) : Type 0 where
   pub low : c ≤F a
   pub high : b ≤F d
 
-points : (a b c d : Fraction) → a ≤F b → AreWithin (between a b) (between c d) → Inside zero_F four_fifths c d → Points a b c d
+points : (a b c d : Fraction) → a ≤F b → AreWithin (between a b) (between c d) → Inside zero_F four_fifths c d
+    → Points a b c d
 points a b c d p h i =
     let ca = h.0 in
     let bd = h.1 in
@@ -62,16 +68,22 @@ points a b c d p h i =
       high = bd;
     }
 
-pub narrower_inside : (lo hi a b c d : Fraction) → AreWithin (between a b) (between c d) → Inside lo hi c d → is_inside lo hi a b ≡ true
-narrower_inside lo hi a b c d h i = inside_in lo hi a b (record { above = le_trans lo c a i.above h.0; below = le_trans b d hi h.1 i.below })
+pub narrower_inside : (lo hi a b c d : Fraction) → AreWithin (between a b) (between c d) → Inside lo hi c d
+    → is_inside lo hi a b ≡ true
+narrower_inside lo hi a b c d h i = inside_in lo hi a b
+    (record { above = le_trans lo c a i.above h.0; below = le_trans b d hi h.1 i.below })
 
 -- ---- sine
-pub sine_lowers : (n : ℕ) (x y : Fraction) → IsUpTo 4 5 x → IsUpTo 4 5 y → x ≤F y → lower (sine_term x) n ≤F lower (sine_term y) n
-sine_lowers n x y w v h = lower_rises n (sine_term x) (sine_term y) ((sine_halving x w).nonneg (suc n)) ((sine_halving y v).nonneg (suc n))
+pub sine_lowers : (n : ℕ) (x y : Fraction) → IsUpTo 4 5 x → IsUpTo 4 5 y → x ≤F y
+    → lower (sine_term x) n ≤F lower (sine_term y) n
+sine_lowers n x y w v h = lower_rises n (sine_term x) (sine_term y) ((sine_halving x w).nonneg (suc n))
+    ((sine_halving y v).nonneg (suc n))
     (sine_rising x y w v h)
 
-pub sine_uppers : (n : ℕ) (x y : Fraction) → IsUpTo 4 5 x → IsUpTo 4 5 y → x ≤F y → upper (sine_term x) n ≤F upper (sine_term y) n
-sine_uppers n x y w v h = upper_rises n (sine_term x) (sine_term y) ((sine_halving x w).nonneg (suc n)) ((sine_halving y v).nonneg (suc n))
+pub sine_uppers : (n : ℕ) (x y : Fraction) → IsUpTo 4 5 x → IsUpTo 4 5 y → x ≤F y
+    → upper (sine_term x) n ≤F upper (sine_term y) n
+sine_uppers n x y w v h = upper_rises n (sine_term x) (sine_term y) ((sine_halving x w).nonneg (suc n))
+    ((sine_halving y v).nonneg (suc n))
     (sine_rising x y w v h)
 
 sine_endpoints : (n : ℕ) (i j : Interval) → IsProper i → AreWithin i j → sine_series n i ⊆ sine_series n j
@@ -95,22 +107,34 @@ sine_deeper n everything p = record { endpoints = tt }
 sine_deeper n (between a b) p =
     by_guard (is_inside zero_F four_fifths a b) (is_inside zero_F four_fifths a b) _ _ λ t.
     let i = inside_out zero_F four_fifths a b t in
-    let w = points a b a b p (le_refl a, le_refl b) i in
-    (t, record { endpoints = ((sums_nested n (sine_term a) (sine_halving a w.a_in)).0, (sums_nested n (sine_term b) (sine_halving b w.b_in)).1) })
+    let w = points a b a b p (le_refl a, le_refl b) i in (
+      t,
+      record {
+        endpoints = (
+          (sums_nested n (sine_term a) (sine_halving a w.a_in)).0,
+          (sums_nested n (sine_term b) (sine_halving b w.b_in)).1,
+        );
+      },
+    )
 
 pub sine_narrows : (n : ℕ) {i j : Interval} → IsProper i → i ⊆ j → sine_series (suc n) i ⊆ sine_series n j
 sine_narrows n {i} {j} p h = within_trans (sine_deeper n i p) (sine_within n p h)
 
 -- ---- cosine, from depth 1 on
-pub cosine_lowers : (n : ℕ) (x y : Fraction) → IsUpTo 4 5 x → IsUpTo 4 5 y → x ≤F y → lower (cosine_term y) (suc n) ≤F lower (cosine_term x) (suc n)
-cosine_lowers n x y w v h = lower_falls n (cosine_term x) (cosine_term y) ((cosine_halving x w).nonneg (suc n)) ((cosine_halving y v).nonneg (suc n))
+pub cosine_lowers : (n : ℕ) (x y : Fraction) → IsUpTo 4 5 x → IsUpTo 4 5 y → x ≤F y
+    → lower (cosine_term y) (suc n) ≤F lower (cosine_term x) (suc n)
+cosine_lowers n x y w v h = lower_falls n (cosine_term x) (cosine_term y) ((cosine_halving x w).nonneg (suc n))
+    ((cosine_halving y v).nonneg (suc n))
     (cosine_falling x y w v h)
 
-pub cosine_uppers : (n : ℕ) (x y : Fraction) → IsUpTo 4 5 x → IsUpTo 4 5 y → x ≤F y → upper (cosine_term y) (suc n) ≤F upper (cosine_term x) (suc n)
-cosine_uppers n x y w v h = upper_falls n (cosine_term x) (cosine_term y) ((cosine_halving x w).nonneg (suc n)) ((cosine_halving y v).nonneg (suc n))
+pub cosine_uppers : (n : ℕ) (x y : Fraction) → IsUpTo 4 5 x → IsUpTo 4 5 y → x ≤F y
+    → upper (cosine_term y) (suc n) ≤F upper (cosine_term x) (suc n)
+cosine_uppers n x y w v h = upper_falls n (cosine_term x) (cosine_term y) ((cosine_halving x w).nonneg (suc n))
+    ((cosine_halving y v).nonneg (suc n))
     (cosine_falling x y w v h)
 
-cosine_endpoints : (n : ℕ) (i j : Interval) → IsProper i → AreWithin i j → cosine_series (suc n) i ⊆ cosine_series (suc n) j
+cosine_endpoints : (n : ℕ) (i j : Interval) → IsProper i → AreWithin i j → cosine_series (suc n) i ⊆ cosine_series
+    (suc n) j
 unfolding cosine_series
 cosine_endpoints n i everything p h = record { endpoints = tt }
 cosine_endpoints n everything (between c d) p h = absurd h
@@ -141,7 +165,8 @@ cosine_deeper n (between a b) p =
       },
     )
 
-pub cosine_narrows : (n : ℕ) {i j : Interval} → IsProper i → i ⊆ j → cosine_series (suc (suc n)) i ⊆ cosine_series (suc n) j
+pub cosine_narrows : (n : ℕ) {i j : Interval} → IsProper i → i ⊆ j → cosine_series (suc (suc n)) i ⊆ cosine_series
+    (suc n) j
 cosine_narrows n {i} {j} p h = within_trans (cosine_deeper n i p) (cosine_within n p h)
 
 -- ---- proper intervals have proper enclosures
@@ -163,7 +188,8 @@ pub cosine_proper : (n : ℕ) (i : Interval) → IsProper i → IsProper (cosine
 unfolding cosine_series
 cosine_proper n everything p = tt
 cosine_proper n (between a b) p =
-    guard_proper (is_inside zero_F four_fifths a b) (between (lower (cosine_term b) (suc n)) (upper (cosine_term a) (suc n))) λ t.
+    guard_proper (is_inside zero_F four_fifths a b)
+    (between (lower (cosine_term b) (suc n)) (upper (cosine_term a) (suc n))) λ t.
     let w = points a b a b p (le_refl a, le_refl b) (inside_out zero_F four_fifths a b t) in
     le_trans (lower (cosine_term b) (suc n)) (lower (cosine_term a) (suc n)) (upper (cosine_term a) (suc n))
     (cosine_lowers n a b w.a_in w.b_in p)
@@ -196,7 +222,8 @@ record Three (a c d f : Fraction) : Type 0 where
   f_in : IsUpTo 4 5 f
   inner : is_inside zero_F four_fifths c d ≡ true
 
-three : (a b c d e f : Fraction) → a ≤F c → c ≤F d → d ≤F f → is_inside zero_F four_fifths a b ≡ true → is_inside zero_F four_fifths e f ≡ true → Three a c d f
+three : (a b c d e f : Fraction) → a ≤F c → c ≤F d → d ≤F f → is_inside zero_F four_fifths a b ≡ true
+    → is_inside zero_F four_fifths e f ≡ true → Three a c d f
 three a b c d e f p q r s t =
     let i = inside_out zero_F four_fifths a b s in
     let j = inside_out zero_F four_fifths e f t in
@@ -213,10 +240,12 @@ three a b c d e f p q r s t =
     }
 
 -- what lies between two intervals has its sines between theirs
-pub sine_between : (n : ℕ) {i j k : Interval} → IsProper j → Precedes i j → Precedes j k → sine_series n j ⊆ hull (sine_series n i) (sine_series n k)
+pub sine_between : (n : ℕ) {i j k : Interval} → IsProper j → Precedes i j → Precedes j k
+    → sine_series n j ⊆ hull (sine_series n i) (sine_series n k)
 unfolding sine_series hull
 sine_between n p (preceding {a = a} {b = b} {c = c} {d = d} ac bd) (preceding {c = e} {d = f} ce df) =
-    between_guards (is_inside zero_F four_fifths a b) (is_inside zero_F four_fifths e f) (is_inside zero_F four_fifths c d) _ _ _ λ s t.
+    between_guards (is_inside zero_F four_fifths a b) (is_inside zero_F four_fifths e f)
+    (is_inside zero_F four_fifths c d) _ _ _ λ s t.
     let w = three a b c d e f ac p df s t in (
       w.inner,
       record {
@@ -231,7 +260,8 @@ pub cosine_between : (n : ℕ) {i j k : Interval} → IsProper j → Precedes i 
     → cosine_series (suc n) j ⊆ hull (cosine_series (suc n) i) (cosine_series (suc n) k)
 unfolding cosine_series hull
 cosine_between n p (preceding {a = a} {b = b} {c = c} {d = d} ac bd) (preceding {c = e} {d = f} ce df) =
-    between_guards (is_inside zero_F four_fifths a b) (is_inside zero_F four_fifths e f) (is_inside zero_F four_fifths c d) _ _ _ λ s t.
+    between_guards (is_inside zero_F four_fifths a b) (is_inside zero_F four_fifths e f)
+    (is_inside zero_F four_fifths c d) _ _ _ λ s t.
     let w = three a b c d e f ac p df s t in (
       w.inner,
       record {

@@ -1,5 +1,5 @@
--- What a version answers some version answers, and the version that is written answers it too. A version is found by the first line
--- of its files.
+-- What a version answers some version answers, and the version that is written answers it too. A version is found by
+-- the first line of its files.
 use Rattle.std.proofs.Common.{◌≡◌, Bool, true, false, ◌&&◌, ◌||◌, refl, arith, List, [], ◌∷◌, ℕ, suc, zero}
 use Rattle.std.proofs.lemmas.Int.{ints}
 use Rattle.std.specs.Prelude.{IsTrue, ℤ, pos, ◌≤ℤ◌, int_le, slice_index_or, Option, Some}
@@ -21,13 +21,16 @@ use Rattle.book_model.specs.declared.words.FromWord.{FromWord}
 use Rattle.book_model.specs.declared.words.FromWord.TheVariants as from
 use Rattle.book_model.specs.declared.words.ToWord.{ToWord}
 use Rattle.book_model.specs.declared.words.ToWord.TheVariants as to
-use Rattle.book_model.specs.calendars.Dates.{row_of, may_have, year_number, has_year, has_some_year, gregorian_day, fixed_day, has_day_in_reach, is_answered, IsAskable}
-use Rattle.book_model.specs.calendars.Versions.{version_number, range_in, is_in_some, line_days, days_in, has_since, had_in, kind_in, place_in, site_in, header_line, version_named}
+use Rattle.book_model.specs.calendars.Dates.{row_of, may_have, year_number, has_year, has_some_year, gregorian_day}
+use Rattle.book_model.specs.calendars.Dates.{fixed_day, has_day_in_reach, is_answered, IsAskable}
+use Rattle.book_model.specs.calendars.Versions.{version_number, range_in, is_in_some, line_days, days_in, has_since}
+use Rattle.book_model.specs.calendars.Versions.{had_in, kind_in, place_in, site_in, header_line, version_named}
 use Rattle.book_model.specs.lines.Reach.{later, first_day_of, reach_of, is_reached}
 use Rattle.book_model.specs.lines.Requests.{has_words, is_in_reach}
 use Rattle.book_model.specs.lines.Words.{from_since, to_since, named_by, shown_by, calendar_of}
 use Rattle.book_model.specs.sky.Correction.{is_between}
-use Rattle.book_model.specs.sky.Names.{kind_name, kind_named, kind_since, place_name, place_named, place_since, site_name, site_named, site_since}
+use Rattle.book_model.specs.sky.Names.{kind_name, kind_named, kind_since, place_name, place_named, place_since}
+use Rattle.book_model.specs.sky.Names.{site_name, site_named, site_since}
 use Rattle.book_model.proofs.CorrectionRows.{lies}
 use Rattle.book_model.proofs.NameLemmas.{kind_found, place_found, site_found}
 
@@ -40,7 +43,8 @@ none_between : (z : ℤ) → is_between (pos 1) (pos 0) z ≡ false
 none_between z = grind (arith, ints)
 
 -- a number in the range at a place lies in one of the ranges
-in_some : (ranges : List (ℤ × ℤ)) (i : ℕ) (z : ℤ) → is_between (slice_index_or ranges i (pos 1, pos 0)).0 (slice_index_or ranges i (pos 1, pos 0)).1 z ≡ true
+in_some : (ranges : List (ℤ × ℤ)) (i : ℕ) (z : ℤ) → is_between (slice_index_or ranges i (pos 1, pos 0)).0
+    (slice_index_or ranges i (pos 1, pos 0)).1 z ≡ true
     → is_in_some ranges z ≡ true
 in_some [] i z h = let none = none_between z in cc
 in_some (range ∷ []) zero z h = h
@@ -53,7 +57,8 @@ in_some (range ∷ other ∷ ranges) (suc i) z h = by (is_between range.0 range.
     by false e = e
 
 -- a date that a version answers is one that its calendar may be asked the day of
-pub askable : (version : Version) (reach : ℤ × ℤ) (c : Calendar) (f : Fields) → IsTrue (may_have c f) → IsTrue (is_answered version reach c f) → IsAskable c f
+pub askable : (version : Version) (reach : ℤ × ℤ) (c : Calendar) (f : Fields) → IsTrue (may_have c f)
+    → IsTrue (is_answered version reach c f) → IsAskable c f
 unfolding is_answered has_some_year
 askable version reach c f possible h =
     let year = (both (has_year version (row_of c) f) (has_day_in_reach reach c f) h).0 in
@@ -74,7 +79,8 @@ both_true : (p q : Bool) → p ≡ true → q ≡ true → (p && q) ≡ true
 both_true p q e f = rw (e, f) refl
 
 -- what lies in a range lies in a wider one
-pub wider_has : (outer inner : ℤ × ℤ) (z : ℤ) → is_wider outer inner ≡ true → is_between inner.0 inner.1 z ≡ true → is_between outer.0 outer.1 z ≡ true
+pub wider_has : (outer inner : ℤ × ℤ) (z : ℤ) → is_wider outer inner ≡ true → is_between inner.0 inner.1 z ≡ true
+    → is_between outer.0 outer.1 z ≡ true
 wider_has outer inner z w h =
     let b = both (int_le outer.0 inner.0) (int_le inner.1 outer.1) w in
     let l = lies inner.0 inner.1 z h in
@@ -82,10 +88,13 @@ wider_has outer inner z w h =
 
 -- what lies in the range at a place lies in one that is wider than all
 in_widest : (outer : ℤ × ℤ) (ranges : List (ℤ × ℤ)) (i : ℕ) (z : ℤ) → list_all (is_wider outer) ranges ≡ true
-    → is_between (slice_index_or ranges i (pos 1, pos 0)).0 (slice_index_or ranges i (pos 1, pos 0)).1 z ≡ true → is_between outer.0 outer.1 z ≡ true
+    → is_between (slice_index_or ranges i (pos 1, pos 0)).0 (slice_index_or ranges i (pos 1, pos 0)).1 z ≡ true
+    → is_between outer.0 outer.1 z ≡ true
 in_widest outer [] i z w h = let none = none_between z in absurd (cc)
-in_widest outer (range ∷ ranges) zero z w h = wider_has outer range z (both (is_wider outer range) (list_all (is_wider outer) ranges) w).0 h
-in_widest outer (range ∷ ranges) (suc i) z w h = in_widest outer ranges i z (both (is_wider outer range) (list_all (is_wider outer) ranges) w).1 h
+in_widest outer (range ∷ ranges) zero z w h = wider_has outer range z
+    (both (is_wider outer range) (list_all (is_wider outer) ranges) w).0 h
+in_widest outer (range ∷ ranges) (suc i) z w h = in_widest outer ranges i z
+    (both (is_wider outer range) (list_all (is_wider outer) ranges) w).1 h
 
 -- of some ranges, the one of the version that is written is the widest
 abbrev is_written_widest : List (ℤ × ℤ) → Bool
@@ -109,7 +118,8 @@ between_endpoints : (lo hi z : ℤ) → lo ≤ℤ z → z ≤ℤ hi → is_betwe
 between_endpoints lo hi z h k = grind (arith, ints, h, k)
 
 -- a day that a line of a version may name is one of the version's days
-pub reached_day : (version : Version) (from : FromWord) (to : ToWord) (day : ℤ) → IsTrue (is_reached version from to day)
+pub reached_day : (version : Version) (from : FromWord) (to : ToWord) (day : ℤ)
+    → IsTrue (is_reached version from to day)
     → IsTrue (is_between (days_in version).0 (days_in version).1 day)
 reached_day version from to day h =
     let l = lies (reach_of version from to).0 (reach_of version from to).1 day h in
@@ -120,7 +130,8 @@ pub told_from : (version : Version) (from : FromWord) (to : ToWord) (day : ℤ) 
     → (first_day_of (named_by from) ≤ℤ day) × (first_day_of (shown_by to) ≤ℤ day)
 told_from version from to day h =
     let l = lies (reach_of version from to).0 (reach_of version from to).1 day h in
-    later_low (first_day_of (named_by from)) (first_day_of (shown_by to)) day (later_low (days_in version).0 _ day l.0).1
+    later_low (first_day_of (named_by from)) (first_day_of (shown_by to)) day
+    (later_low (days_in version).0 _ day l.0).1
 
 -- a day that a line of a version may name is one that the same line of the written version may name
 pub later_days : (version : Version) (from : FromWord) (to : ToWord) (day : ℤ) → IsTrue (is_reached version from to day)
@@ -132,22 +143,27 @@ later_days version from to day h =
     let here = between_endpoints (days_in version).0 (days_in version).1 day from_first.0 l.1 in
     let wide = in_widest (range_in WRITTEN line_days) line_days (version_number version) day days_widest here in
     let k = lies (days_in WRITTEN).0 (days_in WRITTEN).1 day wide in
-    between_endpoints (later (days_in WRITTEN).0 words) (days_in WRITTEN).1 day (later_least (days_in WRITTEN).0 words day k.0 from_first.1) k.1
+    between_endpoints (later (days_in WRITTEN).0 words) (days_in WRITTEN).1 day
+    (later_least (days_in WRITTEN).0 words day k.0 from_first.1) k.1
 
-day_later : (version : Version) (from : FromWord) (to : ToWord) (c : Calendar) (f : Fields) → has_day_in_reach (reach_of version from to) c f ≡ true
+day_later : (version : Version) (from : FromWord) (to : ToWord) (c : Calendar) (f : Fields)
+    → has_day_in_reach (reach_of version from to) c f ≡ true
     → has_day_in_reach (reach_of WRITTEN from to) c f ≡ true
 day_later version from to Gregorian f h = later_days version from to (gregorian_day f) h
 day_later version from to Fixed f h = later_days version from to (fixed_day f) h
 day_later version from to _ f h = refl
 
-later_dates : (version : Version) (from : FromWord) (to : ToWord) (c : Calendar) (f : Fields) → IsTrue (is_answered version (reach_of version from to) c f)
+later_dates : (version : Version) (from : FromWord) (to : ToWord) (c : Calendar) (f : Fields)
+    → IsTrue (is_answered version (reach_of version from to) c f)
     → IsTrue (is_answered WRITTEN (reach_of WRITTEN from to) c f)
 unfolding is_answered
 later_dates version from to c f h =
     let b = both (has_year version (row_of c) f) (has_day_in_reach (reach_of version from to) c f) h in
     let ranges = (row_of c).years in
-    let year = in_widest (range_in WRITTEN ranges) ranges (version_number version) (year_number (row_of c) f) (years_widest c) b.0 in
-    both_true (has_year WRITTEN (row_of c) f) (has_day_in_reach (reach_of WRITTEN from to) c f) year (day_later version from to c f b.1)
+    let year = in_widest (range_in WRITTEN ranges) ranges (version_number version) (year_number (row_of c) f)
+    (years_widest c) b.0 in
+    both_true (has_year WRITTEN (row_of c) f) (has_day_in_reach (reach_of WRITTEN from to) c f) year
+    (day_later version from to c f b.1)
 
 -- a request whose date a version answers is one whose date the written version answers
 pub later_requests : (version : Version) (r : Request) → IsTrue (is_in_reach version r) → IsTrue (is_in_reach WRITTEN r)
@@ -169,14 +185,17 @@ days_late : (version : Version) → int_le (pos 1) (days_in version).0 ≡ true
 days_late One = refl
 days_late _ = refl
 
-later_stays : (a b c : ℤ) → int_le (pos 1) a ≡ true → int_le b (pos 1) ≡ true → int_le c (pos 1) ≡ true → later a (later b c) ≡ a
+later_stays : (a b c : ℤ) → int_le (pos 1) a ≡ true → int_le b (pos 1) ≡ true → int_le c (pos 1) ≡ true
+    → later a (later b c) ≡ a
 later_stays a b c h k l = grind (arith, ints, h, k, l)
 
 -- a line with words that the first version has may name each day of its version
-pub first_reach : (version : Version) (r : Request) → IsTrue (has_words One r) → reach_of version r.from r.to ≡ days_in version
+pub first_reach : (version : Version) (r : Request) → IsTrue (has_words One r)
+    → reach_of version r.from r.to ≡ days_in version
 first_reach version r h =
     let since = both (has_since One (from_since r.from)) (has_since One (to_since r.to)) h in
-    let same = later_stays (days_in version).0 (first_day_of (named_by r.from)) (first_day_of (shown_by r.to)) (days_late version) (from_early r.from since.0)
+    let same = later_stays (days_in version).0 (first_day_of (named_by r.from)) (first_day_of (shown_by r.to))
+    (days_late version) (from_early r.from since.0)
     (to_early r.to since.1) in
     rw same refl
 
@@ -196,10 +215,12 @@ all_to to.Gregorian = refl
 all_to _ = refl
 
 pub all_words : (r : Request) → IsTrue (has_words WRITTEN r)
-all_words r = both_true (has_since WRITTEN (from_since r.from)) (has_since WRITTEN (to_since r.to)) (all_from r.from) (all_to r.to)
+all_words r = both_true (has_since WRITTEN (from_since r.from)) (has_since WRITTEN (to_since r.to)) (all_from r.from)
+    (all_to r.to)
 
 -- what has a name, and a first version that the written one has, is what the name leads to in the written version
-kept_name : {A : Type 0} (since : A → Version) (o : Option A) (a : A) → o ≡ Some a → has_since WRITTEN (since a) ≡ true → had_in WRITTEN since o ≡ Some a
+kept_name : {A : Type 0} (since : A → Version) (o : Option A) (a : A) → o ≡ Some a → has_since WRITTEN (since a) ≡ true
+    → had_in WRITTEN since o ≡ Some a
 kept_name since o a e h = rw e (rw h refl)
 
 kinds_had : (k : Kind) → has_since WRITTEN (kind_since k) ≡ true

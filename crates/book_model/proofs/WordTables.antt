@@ -33,14 +33,16 @@ shown_placed : (w : ToWord) → IsPlaced (shown_by w)
 shown_placed to.Gregorian = tt
 shown_placed _ = search rules
 
-pub value_placed : (w : ToWord) (kind : Kind) (place : Place) → shown_by w ≡ Value kind place → IsTrue (has_place kind place)
+pub value_placed : (w : ToWord) (kind : Kind) (place : Place) → shown_by w ≡ Value kind place
+    → IsTrue (has_place kind place)
 value_placed w kind place e = rw e at (shown_placed w)
 
 named_placed : (w : FromWord) → IsPlaced (named_by w)
 named_placed from.Gregorian = tt
 named_placed _ = search rules
 
-pub day_placed : (w : FromWord) (kind : Kind) (place : Place) → named_by w ≡ Value kind place → IsTrue (has_place kind place)
+pub day_placed : (w : FromWord) (kind : Kind) (place : Place) → named_by w ≡ Value kind place
+    → IsTrue (has_place kind place)
 day_placed w kind place e = rw e at (named_placed w)
 
 -- the row of a calendar is its own

@@ -27,8 +27,10 @@ pub record AppendsPrefix (old new : Option (List ℕ)) (bytes : List ℕ) : Type
   pub rest : List ℕ
   pub wrote : Wrote old new bytes rest
 
--- a call that is to write these bytes has appended them all, or failed, which has its cause, and appended a prefix of them
-pub record Writes {S T E : Type 0} (written : S → Option (List ℕ)) (faults : S → ℕ) (old new : S) (bytes : List ℕ) (result : Result T E) : Type 0 where
+-- a call that is to write these bytes has appended them all, or failed, which has its cause, and appended a prefix of
+-- them
+pub record Writes {S T E : Type 0} (written : S → Option (List ℕ)) (faults : S → ℕ) (old new : S) (bytes : List ℕ)
+    (result : Result T E) : Type 0 where
   pub ok : OnOk result (Appends (written old) (written new) bytes)
   pub err : OnErr result (AppendsPrefix (written old) (written new) bytes)
   pub cause : HasCause (faults old) (faults new) result

@@ -8,7 +8,8 @@ use Rattle.book_model.proofs.Floors.{floor_quotient_mono}
 use Rattle.book_model.proofs.Fractions.{den_product}
 use Rattle.book_model.proofs.IntLaws.{mul_assoc, mul_one}
 use Rattle.std.proofs.Math.Nat.{mul-le-mul_right}
-use Rattle.book_model.specs.calendars.Spans.{ratio, days_of, spans_of, days_of_years, months_of_days, years_of_days, nearest}
+use Rattle.book_model.specs.calendars.Spans.{ratio, days_of, spans_of, days_of_years, months_of_days, years_of_days}
+use Rattle.book_model.specs.calendars.Spans.{nearest}
 
 -- the denominator of a product
 below_is : (m n : ℕ) → suc m * suc n - 1 ≡ below_product m n
@@ -28,7 +29,8 @@ first_is s d =
     rw (a, b) (sym (below_is s d))
 
 -- the numerator of a sum
-sum_is : (days n : ℤ) (s t d : ℕ) → (days *ℤ pos (suc (suc t - 1))) *ℤ pos (suc (suc d - 1)) +ℤ n *ℤ pos (suc (0 * s + 0 + s))
+sum_is : (days n : ℤ) (s t d : ℕ) → (days *ℤ pos (suc (suc t - 1))) *ℤ pos (suc (suc d - 1)) +ℤ n *ℤ pos
+    (suc (0 * s + 0 + s))
     ≡ days *ℤ pos (suc t * suc d) +ℤ n *ℤ pos (suc s)
 sum_is days n s t d =
     let a : suc t - 1 ≡ t = omega arith in
@@ -37,7 +39,8 @@ sum_is days n s t d =
     rw (a, b, c) (ap (λ x. x +ℤ n *ℤ pos (suc s)) (mul_assoc days (pos (suc t)) (pos (suc d))))
 
 -- the days of a count as a quotient of whole numbers
-pub days_as_quotient : (s n : ℤ) (t d : ℕ) → 0 < t → 0 < d → days_of (ratio s t) (ratio n d) ≡ floor_quotient (s *ℤ n) (t * d - 1)
+pub days_as_quotient : (s n : ℤ) (t d : ℕ) → 0 < t → 0 < d → days_of (ratio s t) (ratio n d) ≡ floor_quotient (s *ℤ n)
+    (t * d - 1)
 unfolding days_of times
 days_as_quotient s n zero d h k = absurd (omega arith)
 days_as_quotient s n (suc t) zero h k = absurd (omega arith)
@@ -57,7 +60,8 @@ pub years_are_spans : (days : ℤ) → years_of_days days ≡ spans_of (ratio (p
 unfolding years_of_days nearest spans_of
 years_are_spans days = refl
 
-pub months_are_spans : (days : ℤ) → months_of_days days ≡ spans_of (ratio (pos 29530588861) 1000000000) days (ratio (pos 1) 2)
+pub months_are_spans : (days : ℤ) → months_of_days days ≡ spans_of (ratio (pos 29530588861) 1000000000) days
+    (ratio (pos 1) 2)
 unfolding months_of_days nearest spans_of
 months_are_spans days = refl
 

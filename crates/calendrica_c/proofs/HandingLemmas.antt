@@ -10,38 +10,46 @@ use Rattle.calendrica_c.specs.declared.handed.Handed.{Handed}
 use Rattle.calendrica_c.specs.declared.handed.Handed.TheVariants.{Done, Mixed, Memory, TooLarge, BadText, NoRoom}
 
 -- a text that fits
-hands : {Holds : List ℕ → Type 0} {old new : List ℕ} {told : ℕ} (text : List ℕ) → Holds text → Filled old new told text → Hands Holds old new told
+hands : {Holds : List ℕ → Type 0} {old new : List ℕ} {told : ℕ} (text : List ℕ) → Holds text → Filled old new told text
+    → Hands Holds old new told
 hands text holds filled = record { text = text; holds = holds; filled = filled }
 
 -- and one that doesn't
-hands_none : {Holds : List ℕ → Type 0} {old new : List ℕ} {told : ℕ} (text : List ℕ) → Holds text → TooSmall old new told text
+hands_none : {Holds : List ℕ → Type 0} {old new : List ℕ} {told : ℕ} (text : List ℕ) → Holds text
+    → TooSmall old new told text
     → HandsNone Holds old new told
 hands_none text holds small = record { text = text; holds = holds; small = small }
 
 -- the text of an answer
 pub answer_handed : (text_of : LineOutcome → List ℕ) (line text old new : List ℕ) (told : ℕ) (is : Bool) (h : Handed)
-    → Answered text_of (Some []) (Some text) line is → HandsAs (handed_of is) text old new told h → HandsAnswer text_of line old new told h
+    → Answered text_of (Some []) (Some text) line is → HandsAs (handed_of is) text old new told h
+    → HandsAnswer text_of line old new told h
 answer_handed text_of line text old new told is h answered (inl fits) = rw fits.0 (by is answered)
   where
     by : (is : Bool) → IsAnswer text_of line is text → HandsAnswer text_of line old new told (handed_of is)
     by true holds = hands text holds fits.1
     by false holds = hands text holds fits.1
-answer_handed text_of line text old new told is h answered (inr small) = rw small.0 (is, hands_none text answered small.1)
+answer_handed text_of line text old new told is h answered (inr small) =
+    rw small.0 (is, hands_none text answered small.1)
 
 -- the verdicts of a file, all of them yes
-pub yes_handed : (input text old new : List ℕ) (told : ℕ) (h : Handed) → AreVerdicts input true text → HandsAs Done text old new told h
+pub yes_handed : (input text old new : List ℕ) (told : ℕ) (h : Handed) → AreVerdicts input true text
+    → HandsAs Done text old new told h
     → HandsCheck input old new told h
 yes_handed input text old new told h verdicts (inl fits) = rw fits.0 (hands text verdicts fits.1)
 yes_handed input text old new told h verdicts (inr small) = rw small.0 (hands_none text (inl (true, verdicts)) small.1)
 
 -- or not
-pub others_handed : (input text old new : List ℕ) (told : ℕ) (h : Handed) → AreVerdicts input false text → HandsAs Mixed text old new told h
+pub others_handed : (input text old new : List ℕ) (told : ℕ) (h : Handed) → AreVerdicts input false text
+    → HandsAs Mixed text old new told h
     → HandsCheck input old new told h
 others_handed input text old new told h verdicts (inl fits) = rw fits.0 (hands text verdicts fits.1)
-others_handed input text old new told h verdicts (inr small) = rw small.0 (hands_none text (inl (false, verdicts)) small.1)
+others_handed input text old new told h verdicts (inr small) =
+    rw small.0 (hands_none text (inl (false, verdicts)) small.1)
 
 -- why bytes are none
-pub refusal_handed : (input text old new : List ℕ) (told : ℕ) (h : Handed) → IsRefusal input text → HandsAs BadText text old new told h
+pub refusal_handed : (input text old new : List ℕ) (told : ℕ) (h : Handed) → IsRefusal input text
+    → HandsAs BadText text old new told h
     → HandsCheck input old new told h
 refusal_handed input text old new told h refusal (inl fits) = rw fits.0 (hands text refusal fits.1)
 refusal_handed input text old new told h refusal (inr small) = rw small.0 (hands_none text (inr refusal) small.1)

@@ -43,7 +43,8 @@ pub record HandsNone (Holds : List ℕ → Type 0) (old new : List ℕ) (told : 
 
 -- a call ends so, and its text is handed over, or the room is too small for it
 abbrev pub HandsAs : Handed → (text old new : List ℕ) (told : ℕ) → Handed → Type 0
-HandsAs ending text old new told handed = ((handed ≡ ending) × Filled old new told text) ⊎ ((handed ≡ NoRoom) × TooSmall old new told text)
+HandsAs ending text old new told handed = ((handed ≡ ending) × Filled old new told text)
+    ⊎ ((handed ≡ NoRoom) × TooSmall old new told text)
 
 -- nothing is handed over
 pub record Keeps (old new : List ℕ) (told : ℕ) : Type 0 where

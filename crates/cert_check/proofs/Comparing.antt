@@ -1,5 +1,6 @@
 -- Lists of facts, compared place by place.
-use Rattle.std.proofs.Common.{◌≡◌, ℕ, zero, suc, ◌+◌, ◌<◌, Bool, true, false, refl, List, [], ◌∷◌, ◌++◌, length, get_or, drop, take, arith, ap, append_assoc, ◌∙◌, sym}
+use Rattle.std.proofs.Common.{◌≡◌, ℕ, zero, suc, ◌+◌, ◌<◌, Bool, true, false, refl, List, [], ◌∷◌, ◌++◌, length, get_or}
+use Rattle.std.proofs.Common.{drop, take, arith, ap, append_assoc, ◌∙◌, sym}
 use Rattle.std.specs.Prelude.{Some, None, Option, slice_get, if◌then◌else◌}
 use Rattle.std.proofs.lemmas.List.{drop_more, take_more, drop_all, take_all}
 use Rattle.std.proofs.lemmas.Option.{get_or_from_slice_get, slice_get_within}
@@ -28,11 +29,13 @@ nothing_left (x ∷ xs) zero h = cc
 nothing_left (x ∷ xs) (suc i) h = nothing_left xs i h
 
 -- a fact more is the same
-pub same_on : (asked listed : List Fact) (i : ℕ) (d : Fact) → i < length listed → is_fact_at (slice_get asked i) (get_or listed i d) ≡ true
+pub same_on : (asked listed : List Fact) (i : ℕ) (d : Fact) → i < length listed
+    → is_fact_at (slice_get asked i) (get_or listed i d) ≡ true
     → IsSameTo i asked listed → IsSameTo (i + 1) asked listed
 same_on asked listed i d h at so_far = step (slice_get asked i) refl at
   where
-    step : (o : Option Fact) → slice_get asked i ≡ o → is_fact_at o (get_or listed i d) ≡ true → IsSameTo (i + 1) asked listed
+    step : (o : Option Fact) → slice_get asked i ≡ o → is_fact_at o (get_or listed i d) ≡ true
+        → IsSameTo (i + 1) asked listed
     step None e k = cc
     step (Some f) e k =
         let left = left_from asked i f e in
@@ -47,11 +50,13 @@ same_on asked listed i d h at so_far = step (slice_get asked i) refl at
         }
 
 -- the next is another, or there is none
-pub differs_at : (asked listed : List Fact) (i : ℕ) (d : Fact) → i < length listed → is_fact_at (slice_get asked i) (get_or listed i d) ≡ false
+pub differs_at : (asked listed : List Fact) (i : ℕ) (d : Fact) → i < length listed
+    → is_fact_at (slice_get asked i) (get_or listed i d) ≡ false
     → IsSameTo i asked listed → Some (i + 1) ≡ difference 1 asked listed
 differs_at asked listed i d h at so_far = step (slice_get asked i) refl at
   where
-    step : (o : Option Fact) → slice_get asked i ≡ o → is_fact_at o (get_or listed i d) ≡ false → Some (i + 1) ≡ difference 1 asked listed
+    step : (o : Option Fact) → slice_get asked i ≡ o → is_fact_at o (get_or listed i d) ≡ false
+        → Some (i + 1) ≡ difference 1 asked listed
     step None e k =
         let n : i + 1 ≡ 1 + i = omega arith in
         let next : difference (1 + i) [] (get_or listed i d ∷ drop (i + 1) listed)
@@ -64,7 +69,8 @@ differs_at asked listed i d h at so_far = step (slice_get asked i) refl at
         rw n (rw k at next)
 
 -- all are the same, and there are no more
-pub same_all : (asked listed : List Fact) (i : ℕ) → i ≡ length listed → EndsWithin asked listed → IsSameTo i asked listed → None ≡ difference 1 asked listed
+pub same_all : (asked listed : List Fact) (i : ℕ) → i ≡ length listed → EndsWithin asked listed
+    → IsSameTo i asked listed → None ≡ difference 1 asked listed
 same_all asked listed i end within so_far = step (drop (length listed) asked) refl
   where
     all : IsSameTo (length listed) asked listed
@@ -85,7 +91,8 @@ no_difference place [] (y ∷ ys) h = cc
 no_difference place (x ∷ xs) [] h = cc
 no_difference place (x ∷ xs) (y ∷ ys) h = step (fact_eq x y) refl (no_difference (place + 1) xs ys) h
   where
-    step : (t : Bool) → fact_eq x y ≡ t → (difference (place + 1) xs ys ≡ None → xs ≡ ys) → (if t then difference (place + 1) xs ys else Some place) ≡ None
+    step : (t : Bool) → fact_eq x y ≡ t → (difference (place + 1) xs ys ≡ None → xs ≡ ys)
+        → (if t then difference (place + 1) xs ys else Some place) ≡ None
         → x ∷ xs ≡ y ∷ ys
     step true e rest k = let one : x ≡ y = one_fact x y e in let others : xs ≡ ys = rest k in cc
     step false e rest k = cc

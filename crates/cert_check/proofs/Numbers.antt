@@ -1,5 +1,6 @@
 -- Numbers of facts that are listed.
-use Rattle.std.proofs.Common.{◌≡◌, ℕ, zero, suc, ◌-◌, ◌^◌, ◌<◌, ◌≤◌, Bool, true, false, ◌||◌, refl, List, [], ◌∷◌, ◌++◌, length, get_or, arith, eqb-true, eq-eqb}
+use Rattle.std.proofs.Common.{◌≡◌, ℕ, zero, suc, ◌-◌, ◌^◌, ◌<◌, ◌≤◌, Bool, true, false, ◌||◌, refl, List, [], ◌∷◌, ◌++◌}
+use Rattle.std.proofs.Common.{length, get_or, arith, eqb-true, eq-eqb}
 use Rattle.std.specs.Prelude.{nat_eq, nat_le, if◌then◌else◌}
 use Rattle.std.specs.List.{list_any}
 use Rattle.std.proofs.lemmas.Bool.Decides.{nat_tests}
@@ -23,17 +24,20 @@ pub record IsNumber (count n : ℕ) : Type 0 where
   pub last : n ≤ count
 
 -- each of the numbers is one
-pub number_at : (count : ℕ) (ns : List ℕ) (i d : ℕ) → AreNumbers count ns → i < length ns → IsNumber count (get_or ns i d)
+pub number_at : (count : ℕ) (ns : List ℕ) (i d : ℕ) → AreNumbers count ns → i < length ns
+    → IsNumber count (get_or ns i d)
 number_at count [] i d all h = absurd (omega arith)
 number_at count (n ∷ ns) zero d all h = record { first = all.0; last = all.1 }
 number_at count (n ∷ ns) (suc i) d all h = number_at count ns i d all.2 (omega arith)
 
 -- one that is among the first is among both
-among_more : (x : ℕ) (seen : List ℕ) (n : ℕ) → list_any (nat_eq x) seen ≡ true → list_any (nat_eq x) (seen ++ n ∷ []) ≡ true
+among_more : (x : ℕ) (seen : List ℕ) (n : ℕ) → list_any (nat_eq x) seen ≡ true
+    → list_any (nat_eq x) (seen ++ n ∷ []) ≡ true
 among_more x [] n h = cc
 among_more x (s ∷ seen) n h = step (nat_eq x s) (among_more x seen n) h
   where
-    step : (t : Bool) → (list_any (nat_eq x) seen ≡ true → list_any (nat_eq x) (seen ++ n ∷ []) ≡ true) → (t || list_any (nat_eq x) seen) ≡ true
+    step : (t : Bool) → (list_any (nat_eq x) seen ≡ true → list_any (nat_eq x) (seen ++ n ∷ []) ≡ true)
+        → (t || list_any (nat_eq x) seen) ≡ true
         → (t || list_any (nat_eq x) (seen ++ n ∷ [])) ≡ true
     step true rest h = refl
     step false rest h = rest h
@@ -48,22 +52,29 @@ among_last (s ∷ seen) n = step (nat_eq n s) (among_last seen n)
     step false rest = rest
 
 -- what was seen doesn't come again
-none_seen : (count x : ℕ) (seen ns : List ℕ) → are_of_facts count seen ns ≡ true → list_any (nat_eq x) seen ≡ true → NoneIs x ns
+none_seen : (count x : ℕ) (seen ns : List ℕ) → are_of_facts count seen ns ≡ true → list_any (nat_eq x) seen ≡ true
+    → NoneIs x ns
 none_seen count x seen [] h k = tt
 none_seen count x seen (n ∷ ns) h k =
-    let e = four_hold (nat_le 1 n) (nat_le n count) (list_any (nat_eq n) seen) (are_of_facts count (seen ++ n ∷ []) ns) h in
-    (λ same. let b : list_any (nat_eq n) seen ≡ true = rw same at k in let no = e.2 in cc, none_seen count x (seen ++ n ∷ []) ns e.3 (among_more x seen n k))
+    let e = four_hold (nat_le 1 n) (nat_le n count) (list_any (nat_eq n) seen) (are_of_facts count (seen ++ n ∷ []) ns)
+    h in (
+      λ same. let b : list_any (nat_eq n) seen ≡ true = rw same at k in let no = e.2 in
+          cc,
+      none_seen count x (seen ++ n ∷ []) ns e.3 (among_more x seen n k),
+    )
 
 pub numbers_apart : (count : ℕ) (seen ns : List ℕ) → are_of_facts count seen ns ≡ true → AreApart ns
 numbers_apart count seen [] h = tt
 numbers_apart count seen (n ∷ ns) h =
-    let e = four_hold (nat_le 1 n) (nat_le n count) (list_any (nat_eq n) seen) (are_of_facts count (seen ++ n ∷ []) ns) h in
+    let e = four_hold (nat_le 1 n) (nat_le n count) (list_any (nat_eq n) seen) (are_of_facts count (seen ++ n ∷ []) ns)
+    h in
     (none_seen count n (seen ++ n ∷ []) ns e.3 (among_last seen n), numbers_apart count (seen ++ n ∷ []) ns e.3)
 
 pub numbers_within : (count : ℕ) (seen ns : List ℕ) → are_of_facts count seen ns ≡ true → AreNumbers count ns
 numbers_within count seen [] h = tt
 numbers_within count seen (n ∷ ns) h =
-    let e = four_hold (nat_le 1 n) (nat_le n count) (list_any (nat_eq n) seen) (are_of_facts count (seen ++ n ∷ []) ns) h in
+    let e = four_hold (nat_le 1 n) (nat_le n count) (list_any (nat_eq n) seen) (are_of_facts count (seen ++ n ∷ []) ns)
+    h in
     let low = e.0 in
     let high = e.1 in
     (first n low, last n count high, numbers_within count (seen ++ n ∷ []) ns e.3)
@@ -84,7 +95,8 @@ unfolding without
 shorter_by_one x [] = omega arith
 shorter_by_one x (n ∷ ns) = step (nat_eq x n) (shorter_by_one x ns)
   where
-    step : (t : Bool) → length ns ≤ suc (length (without x ns)) → suc (length ns) ≤ suc (length (if t then ns else n ∷ without x ns))
+    step : (t : Bool) → length ns ≤ suc (length (without x ns))
+        → suc (length ns) ≤ suc (length (if t then ns else n ∷ without x ns))
     step true h = omega arith
     step false h = omega arith
 
@@ -117,7 +129,8 @@ below_next count n (m ∷ ms) e none all =
     closer : (m : ℕ) → m ≤ suc count → (m ≡ suc count → ⊥) → m ≤ count
     closer m h k = grind arith
 
-within_without : (count : ℕ) (ns : List ℕ) → AreNumbers (suc count) ns → AreApart ns → AreNumbers count (without (suc count) ns)
+within_without : (count : ℕ) (ns : List ℕ) → AreNumbers (suc count) ns → AreApart ns
+    → AreNumbers count (without (suc count) ns)
 unfolding without
 within_without count [] all apart = tt
 within_without count (n ∷ ns) all apart = step (nat_eq (suc count) n) refl (within_without count ns all.2 apart.1)
@@ -125,9 +138,16 @@ within_without count (n ∷ ns) all apart = step (nat_eq (suc count) n) refl (wi
     closer : (m : ℕ) → m ≤ suc count → (suc count ≡ m → ⊥) → m ≤ count
     closer m h k = grind arith
 
-    step : (t : Bool) → nat_eq (suc count) n ≡ t → AreNumbers count (without (suc count) ns) → AreNumbers count (if t then ns else n ∷ without (suc count) ns)
-    step true e rest = below_next count n ns (let s : suc count ≡ n = eqb-true (suc count) n e in rw s refl) apart.0 all.2
-    step false e rest = (all.0, closer n all.1 (λ s. let t : nat_eq (suc count) n ≡ true = eq-eqb (suc count) n s in cc), rest)
+    step : (t : Bool) → nat_eq (suc count) n ≡ t → AreNumbers count (without (suc count) ns)
+        → AreNumbers count (if t then ns else n ∷ without (suc count) ns)
+    step true e rest = below_next count n ns (let s : suc count ≡ n = eqb-true (suc count) n e in rw s refl) apart.0
+        all.2
+    step false e rest = (
+      all.0,
+      closer n all.1 (λ s. let t : nat_eq (suc count) n ≡ true = eq-eqb (suc count) n s in
+          cc),
+      rest,
+    )
 
 -- numbers from 1 to a count, none twice, are at most as many
 pub at_most_as_many : (count : ℕ) (ns : List ℕ) → AreNumbers count ns → AreApart ns → length ns ≤ count
@@ -135,17 +155,20 @@ at_most_as_many zero [] all apart = omega arith
 at_most_as_many zero (n ∷ ns) all apart = let a = all.0 in let b = all.1 in absurd (omega (arith, a, b))
 at_most_as_many (suc count) ns all apart =
     let n = shorter_by_one (suc count) ns in
-    let fewer = at_most_as_many count (without (suc count) ns) (within_without count ns all apart) (apart_without (suc count) ns apart) in
+    let fewer = at_most_as_many count (without (suc count) ns) (within_without count ns all apart)
+    (apart_without (suc count) ns apart) in
     omega arith
 
 -- numbers of 32 bits, none twice, are fewer than there are of 32 bits
-pub few_numbers : (count : ℕ) (ns : List ℕ) → are_of_facts count [] ns ≡ true → ((i : ℕ) → i < length ns → get_or ns i 0 < 2 ^ 32) → length ns < 2 ^ 32
+pub few_numbers : (count : ℕ) (ns : List ℕ) → are_of_facts count [] ns ≡ true
+    → ((i : ℕ) → i < length ns → get_or ns i 0 < 2 ^ 32) → length ns < 2 ^ 32
 few_numbers count ns h fit =
     let all = of_32_bits ns (numbers_within count [] ns h) fit in
     let most = at_most_as_many (2 ^ 32 - 1) ns all (numbers_apart count [] ns h) in
     omega (arith, most)
   where
-    of_32_bits : (ms : List ℕ) → AreNumbers count ms → ((i : ℕ) → i < length ms → get_or ms i 0 < 2 ^ 32) → AreNumbers (2 ^ 32 - 1) ms
+    of_32_bits : (ms : List ℕ) → AreNumbers count ms → ((i : ℕ) → i < length ms → get_or ms i 0 < 2 ^ 32)
+        → AreNumbers (2 ^ 32 - 1) ms
     of_32_bits [] all fits = tt
     of_32_bits (m ∷ ms) all fits =
         let here : m < 2 ^ 32 = fits 0 (omega arith) in

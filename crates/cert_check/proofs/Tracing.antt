@@ -26,21 +26,24 @@ value_in (Some v) = v
 unlisted : (fs : List Fact) (vs : List ℤ) (f : Fact) → list_any (fact_eq f) fs ≡ false → value_beside fs vs f ≡ None
 unlisted [] vs f h = refl
 unlisted (g ∷ gs) [] f h = refl
-unlisted (g ∷ gs) (v ∷ vs) f h = let n = neither (fact_eq f g) (list_any (fact_eq f) gs) h in rw n.0 (unlisted gs vs f n.1)
+unlisted (g ∷ gs) (v ∷ vs) f h = let n = neither (fact_eq f g) (list_any (fact_eq f) gs) h in
+    rw n.0 (unlisted gs vs f n.1)
 
 -- the values of the listed facts, and 0 of the others
 abbrev pub table_of : List Fact → List ℤ → Fact → ℤ
 table_of facts values f = value_in (value_beside facts values f)
 
 -- a result over the listed facts is the inquiry's over them, with the facts asked
-traces : {A : Type 0} {t : FactTable} {i : Inquiry A} {old new : List Fact} {r : Result A Stop} (a : A) → Tells by_table t i old new r → r ≡ Ok a
+traces : {A : Type 0} {t : FactTable} {i : Inquiry A} {old new : List Fact} {r : Result A Stop} (a : A)
+    → Tells by_table t i old new r → r ≡ Ok a
     → trace_after t.facts t.values old i ≡ traced a new
 traces a (endpoints {a = b} {asked = seen}) e = let same : b ≡ a = cc in ap (λ x. traced x seen) same
 traces a (goes_on value rest) e = rw value (traces a rest e)
 traces a (stops fresh stop) e = cc
 
 -- where an oracle over listed facts misses a fact, it is the first that isn't listed
-misses : {A : Type 0} {t : FactTable} {i : Inquiry A} {old new : List Fact} {r : Result A Stop} (f : Fact) → Tells by_table t i old new r → r
+misses : {A : Type 0} {t : FactTable} {i : Inquiry A} {old new : List Fact} {r : Result A Stop} (f : Fact)
+    → Tells by_table t i old new r → r
     ≡ Err (missing_stop f) → trace_after t.facts t.values old i ≡ missing f
 misses f endpoints e = cc
 misses f (goes_on value rest) e = rw value (misses f rest e)
@@ -52,12 +55,14 @@ misses {t = t} f (stops {f = g} {s = s} fresh stop) e =
     rw none (ap missing (sym same))
 
 -- more facts that have values
-valued_more : (t : FactTable) (xs : List Fact) (f : Fact) (v : ℤ) → AreValued by_table t xs → value_beside t.facts t.values f ≡ Some v
+valued_more : (t : FactTable) (xs : List Fact) (f : Fact) (v : ℤ) → AreValued by_table t xs
+    → value_beside t.facts t.values f ≡ Some v
     → AreValued by_table t (xs ++ f ∷ [])
 valued_more t [] f v h k = ((v, k), tt)
 valued_more t (x ∷ xs) f v h k = (h.0, valued_more t xs f v h.1 k)
 
-valued_with : (t : FactTable) (seen : List Fact) (f : Fact) (v : ℤ) → AreValued by_table t seen → value_beside t.facts t.values f ≡ Some v
+valued_with : (t : FactTable) (seen : List Fact) (f : Fact) (v : ℤ) → AreValued by_table t seen
+    → value_beside t.facts t.values f ≡ Some v
     → AreValued by_table t (with_fact seen f)
 valued_with t seen f v h k = step (list_any (fact_eq f) seen)
   where
@@ -79,12 +84,14 @@ distinct_with seen f h = step (list_any (fact_eq f) seen) refl
     step false e = distinct_more seen f h e
 
 -- a fact that has a value is listed
-has_place : (fs : List Fact) (vs : List ℤ) (f : Fact) (v : ℤ) → value_beside fs vs f ≡ Some v → list_any (fact_eq f) fs ≡ true
+has_place : (fs : List Fact) (vs : List ℤ) (f : Fact) (v : ℤ) → value_beside fs vs f ≡ Some v
+    → list_any (fact_eq f) fs ≡ true
 has_place [] vs f v h = cc
 has_place (g ∷ gs) [] f v h = cc
 has_place (g ∷ gs) (w ∷ ws) f v h = step (fact_eq f g) (has_place gs ws f v) h
   where
-    step : (t : Bool) → (value_beside gs ws f ≡ Some v → list_any (fact_eq f) gs ≡ true) → (if t then Some w else value_beside gs ws f) ≡ Some v
+    step : (t : Bool) → (value_beside gs ws f ≡ Some v → list_any (fact_eq f) gs ≡ true)
+        → (if t then Some w else value_beside gs ws f) ≡ Some v
         → (t || list_any (fact_eq f) gs) ≡ true
     step true rest k = refl
     step false rest k = rest k
@@ -94,7 +101,8 @@ record AreFound (t : FactTable) (asked : List Fact) : Type 0 where
   distinct : IsTrue (are_distinct asked)
   valued : AreValued by_table t asked
 
-found_after : {A : Type 0} {t : FactTable} {i : Inquiry A} {old new : List Fact} {r : Result A Stop} → Tells by_table t i old new r → AreFound t old
+found_after : {A : Type 0} {t : FactTable} {i : Inquiry A} {old new : List Fact} {r : Result A Stop}
+    → Tells by_table t i old new r → AreFound t old
     → AreFound t new
 found_after endpoints h = h
 found_after {t = t} {old = old} (goes_on {f = f} {v = v} value rest) h = found_after rest
@@ -118,27 +126,35 @@ pub record IsFresh (facts : List Fact) (values : List ℤ) (s : State FactTable)
   pub values_are : s.known.values ≡ values
   pub none : s.asked ≡ []
 
-pub asked_within : {A : Type 0} (facts : List Fact) (values : List ℤ) (i : Inquiry A) (old new : State FactTable) (r : Result A Stop) → IsFresh facts values old
+pub asked_within : {A : Type 0} (facts : List Fact) (values : List ℤ) (i : Inquiry A) (old new : State FactTable)
+    (r : Result A Stop) → IsFresh facts values old
     → Inquires by_table i old new r → EndsWithin new.asked facts
 asked_within facts values i old new r fresh h =
-    rw (← fresh.facts_are) (endpoints_within old.known new.asked (found_after h.tells (rw fresh.none (record { distinct = refl; valued = tt }))))
+    rw (← fresh.facts_are)
+    (endpoints_within old.known new.asked
+    (found_after h.tells (rw fresh.none (record { distinct = refl; valued = tt }))))
 
 -- the verdict by what was asked is that of the listed facts
-pub traced_verdict : {E : Type 0} (facts : List Fact) (values : List ℤ) (i : Inquiry Resolved) (old new : State FactTable) (x : Resolved) (text : List ℕ)
+pub traced_verdict : {E : Type 0} (facts : List Fact) (values : List ℤ) (i : Inquiry Resolved)
+    (old new : State FactTable) (x : Resolved) (text : List ℕ)
     (result : Result Verdict E) → IsFresh facts values old → Inquires by_table i old new (Ok x)
     → IfOk result (λ v. v ≡ verdict_on_list (difference 1 new.asked facts) x text)
     → IfOk result (λ v. v ≡ verdict_on_trace facts (trace_after facts values [] i) text)
 traced_verdict facts values i old new x text (Ok v) fresh h k =
-    let traced_as : trace_after facts values [] i ≡ traced x new.asked = rw (fresh.facts_are, fresh.values_are, fresh.none) at (traces x h.tells refl) in
+    let traced_as : trace_after facts values [] i ≡ traced x new.asked =
+    rw (fresh.facts_are, fresh.values_are, fresh.none) at (traces x h.tells refl) in
     rw traced_as k
 traced_verdict facts values i old new x text (Err e) fresh h k = tt
 
 -- and so is the one by a missing fact
-pub missing_verdict : {E : Type 0} (facts : List Fact) (values : List ℤ) (i : Inquiry Resolved) (old new : State FactTable) (s : Stop) (text : List ℕ)
+pub missing_verdict : {E : Type 0} (facts : List Fact) (values : List ℤ) (i : Inquiry Resolved)
+    (old new : State FactTable) (s : Stop) (text : List ℕ)
     (result : Result Verdict E) → IsFresh facts values old → Inquires by_table i old new (Err s)
-    → IfOk result (λ v. NamesMissing s v) → IfOk result (λ v. v ≡ verdict_on_trace facts (trace_after facts values [] i) text)
+    → IfOk result (λ v. NamesMissing s v)
+    → IfOk result (λ v. v ≡ verdict_on_trace facts (trace_after facts values [] i) text)
 missing_verdict facts values i old new s text (Ok v) fresh h k =
-    let misses_it : trace_after facts values [] i ≡ missing k.fact = rw (fresh.facts_are, fresh.values_are, fresh.none) at
+    let misses_it : trace_after facts values [] i ≡ missing k.fact = rw (fresh.facts_are, fresh.values_are, fresh.none)
+    at
     (misses k.fact h.tells (ap Err k.stops)) in
     rw misses_it k.named
 missing_verdict facts values i old new s text (Err e) fresh h k = tt

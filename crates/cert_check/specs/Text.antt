@@ -9,7 +9,8 @@ use Rattle.book_model.specs.lines.Text.{result_text, undecided_text, void_text}
 use Rattle.cert_check.specs.declared.verdict.Verdict.{Verdict}
 use Rattle.cert_check.specs.declared.verdict.Verdict.TheVariants.{Yes, No, Skip}
 use Rattle.cert_check.specs.declared.verdict.Reason.{Reason}
-use Rattle.cert_check.specs.declared.verdict.Reason.TheVariants.{Form, Value, Undecided, Void, Missing, List as list_reason, Date}
+use Rattle.cert_check.specs.declared.verdict.Reason.TheVariants.{Form, Value, Undecided, Void, Missing}
+use Rattle.cert_check.specs.declared.verdict.Reason.TheVariants.{List as list_reason, Date}
 
 -- yes N
 unfoldable pub yes_text : ℕ → List ℕ
@@ -25,12 +26,14 @@ form_text number rule = concat (codes "no " ∷ decimal number ∷ codes " form 
 
 -- no N value F LISTED FOUND
 unfoldable pub value_text : ℕ → ℕ → ℤ → ℤ → List ℕ
-value_text number fact listed found = concat (codes "no " ∷ decimal number ∷ codes " value " ∷ decimal fact ∷ codes " " ∷ signed_decimal listed ∷ codes " " ∷
+value_text number fact listed found = concat (codes "no " ∷ decimal number ∷ codes " value " ∷ decimal fact ∷ codes " "
+    ∷ signed_decimal listed ∷ codes " " ∷
     signed_decimal found ∷ codes "\n" ∷ [])
 
 -- no N missing KIND PLACE DAY
 unfoldable pub missing_text : ℕ → Fact → List ℕ
-missing_text number f = concat (codes "no " ∷ decimal number ∷ codes " missing " ∷ kind_name f.kind ∷ codes " " ∷ place_name f.place ∷ codes " " ∷
+missing_text number f = concat (codes "no " ∷ decimal number ∷ codes " missing " ∷ kind_name f.kind ∷ codes " "
+    ∷ place_name f.place ∷ codes " " ∷
     signed_decimal f.day ∷ codes "\n" ∷ [])
 
 -- no N list I
@@ -63,4 +66,5 @@ verdict_text number Skip = skip_text number
 
 -- end yes A no B skip C
 unfoldable pub counts_text : ℕ → ℕ → ℕ → List ℕ
-counts_text stand fail skip = concat (codes "end yes " ∷ decimal stand ∷ codes " no " ∷ decimal fail ∷ codes " skip " ∷ decimal skip ∷ codes "\n" ∷ [])
+counts_text stand fail skip = concat (codes "end yes " ∷ decimal stand ∷ codes " no " ∷ decimal fail ∷ codes " skip "
+    ∷ decimal skip ∷ codes "\n" ∷ [])

@@ -1,5 +1,6 @@
 -- The verdict of a line of a certificate, by an answer for each fact of the file.
-use Rattle.std.specs.Prelude.{◌≡◌, ℕ, ◌+◌, ◌-◌, ◌<◌, nat_eq, if◌then◌else◌, List, [], ◌∷◌, length, ℤ, Some, None, Option, Result, Ok, Err, slice_index_or, IsTrue}
+use Rattle.std.specs.Prelude.{◌≡◌, ℕ, ◌+◌, ◌-◌, ◌<◌, nat_eq, if◌then◌else◌, List, [], ◌∷◌, length, ℤ, Some, None}
+use Rattle.std.specs.Prelude.{Option, Result, Ok, Err, slice_index_or, IsTrue}
 use Rattle.std.specs.Ordering.{int_eq}
 use Rattle.std.specs.List.{slice_get}
 use lib.Pointwise.{pointwise}
@@ -71,7 +72,8 @@ unanswered number (Some e) (Some a) = reason_of number e a
 -- the first such fact of those with these numbers
 abbrev pub first_unanswered : List (Fact × ℤ) → List Answer → List ℕ → Option Reason
 first_unanswered facts answers [] = None
-first_unanswered facts answers (n ∷ ns) = or_else (unanswered n (slice_get facts (n - 1)) (slice_get answers (n - 1))) (first_unanswered facts answers ns)
+first_unanswered facts answers (n ∷ ns) = or_else (unanswered n (slice_get facts (n - 1)) (slice_get answers (n - 1)))
+    (first_unanswered facts answers ns)
 
 -- what comes of an inquiry over listed facts: a result with the facts that it asks, each once in order of first use, or
 -- the first that isn't listed
@@ -86,7 +88,8 @@ traced_at f (Some v) next = next v
 -- what comes of it over facts with these values, after those that were asked
 abbrev pub trace_after : {A : Type 0} → List Fact → List ℤ → List Fact → Inquiry A → Trace A
 trace_after facts values seen (done a) = traced a seen
-trace_after facts values seen (ask f next) = traced_at f (value_beside facts values f) (λ v. trace_after facts values (with_fact seen f) (next v))
+trace_after facts values seen (ask f next) = traced_at f (value_beside facts values f)
+    (λ v. trace_after facts values (with_fact seen f) (next v))
 
 -- the first place, counted from this one, at which two lists of facts differ
 abbrev pub difference : ℕ → List Fact → List Fact → Option ℕ
@@ -113,7 +116,8 @@ verdict_on_trace facts (traced found asked) text = verdict_on_list (difference 1
 abbrev pub verdict_on_facts : Version → Option Reason → List (Fact × ℤ) → Request → List ℕ → Verdict
 verdict_on_facts version (Some why) listed request text = No why
 verdict_on_facts version None listed request text =
-    verdict_on_trace (facts_of listed) (trace_after (facts_of listed) (values_of listed) [] (rule_of version request)) text
+    verdict_on_trace (facts_of listed) (trace_after (facts_of listed) (values_of listed) [] (rule_of version request))
+    text
 
 -- words that break a rule or are a request
 abbrev pub verdict_on_request : Version → Result Request Rule → Option Reason → List (Fact × ℤ) → List ℕ → Verdict
@@ -123,13 +127,17 @@ verdict_on_request version (Ok request) why listed text = verdict_on_facts versi
 -- a line of a file of a version with these words, this text of its result, and these numbers of facts
 unfoldable pub verdict_on : Version → List (Fact × ℤ) → List Answer → List ℕ → List ℕ → List ℕ → Verdict
 verdict_on version facts answers words text numbers =
-    verdict_on_request version (request_of version words) (first_unanswered facts answers numbers) (numbered facts numbers) text
+    verdict_on_request version (request_of version words) (first_unanswered facts answers numbers)
+    (numbered facts numbers) text
 
 -- the verdict of a line of a file of a version
 abbrev pub verdict_of : Version → List (Fact × ℤ) → List Answer → CertLine → Verdict
-verdict_of version facts answers (line.Shown echo result numbers) = verdict_on version facts answers (words_of_echo echo) result numbers
-verdict_of version facts answers (line.TooFar echo day numbers) = verdict_on version facts answers (words_of_echo echo) (too_far_text day) numbers
-verdict_of version facts answers (line.NoDate echo back numbers) = verdict_on version facts answers (words_of_echo echo) (no_date_text back) numbers
+verdict_of version facts answers (line.Shown echo result numbers) = verdict_on version facts answers
+    (words_of_echo echo) result numbers
+verdict_of version facts answers (line.TooFar echo day numbers) = verdict_on version facts answers (words_of_echo echo)
+    (too_far_text day) numbers
+verdict_of version facts answers (line.NoDate echo back numbers) = verdict_on version facts answers (words_of_echo echo)
+    (no_date_text back) numbers
 verdict_of version facts answers (line.Refused rule) = Skip
 verdict_of version facts answers (line.Undecided fact at) = Skip
 verdict_of version facts answers (line.Void fact site) = Skip
@@ -138,8 +146,8 @@ verdict_of version facts answers (line.Void fact site) = Skip
 abbrev pub line_at : CertFile → ℕ → CertLine
 line_at file index = slice_index_or file.lines index (line.Refused 0)
 
--- The words break no rule of a version, and at every depth from 40 on their result is one with this text, over these facts with
--- these values, each of which stands.
+-- The words break no rule of a version, and at every depth from 40 on their result is one with this text, over these
+-- facts with these values, each of which stands.
 pub record IsCertified (version : Version) (words text : List ℕ) (listed : List (Fact × ℤ)) : Type 0 where
   pub found : Resolved
   pub is_right : IsRightFor version words (resolved found listed)
@@ -148,9 +156,12 @@ pub record IsCertified (version : Version) (words text : List ℕ) (listed : Lis
 
 -- what a line of a file of a version shows is certified
 abbrev pub IsCertifiedLine : Version → List (Fact × ℤ) → CertLine → Type 0
-IsCertifiedLine version facts (line.Shown echo result numbers) = IsCertified version (words_of_echo echo) result (numbered facts numbers)
-IsCertifiedLine version facts (line.TooFar echo day numbers) = IsCertified version (words_of_echo echo) (too_far_text day) (numbered facts numbers)
-IsCertifiedLine version facts (line.NoDate echo back numbers) = IsCertified version (words_of_echo echo) (no_date_text back) (numbered facts numbers)
+IsCertifiedLine version facts (line.Shown echo result numbers) = IsCertified version (words_of_echo echo) result
+    (numbered facts numbers)
+IsCertifiedLine version facts (line.TooFar echo day numbers) = IsCertified version (words_of_echo echo)
+    (too_far_text day) (numbered facts numbers)
+IsCertifiedLine version facts (line.NoDate echo back numbers) = IsCertified version (words_of_echo echo)
+    (no_date_text back) (numbered facts numbers)
 IsCertifiedLine version facts (line.Refused rule) = ⊥
 IsCertifiedLine version facts (line.Undecided fact at) = ⊥
 IsCertifiedLine version facts (line.Void fact site) = ⊥
@@ -160,8 +171,8 @@ abbrev pub AreNearNowhere : List (Fact × ℤ) → Type 0
 AreNearNowhere [] = Unit {0}
 AreNearNowhere (e ∷ es) = ((u : UndecidedTest) → IsNear e.0 u → ⊥) × AreNearNowhere es
 
--- The facts of a file are distinct, each value is one of a fact, the numbers that a line lists are distinct and numbers of the
--- facts, and a line that is refused without its words names a rule.
+-- The facts of a file are distinct, each value is one of a fact, the numbers that a line lists are distinct and numbers
+-- of the facts, and a line that is refused without its words names a rule.
 pub record IsCheckable (file : CertFile) : Type 0 where
   pub distinct : IsTrue (are_distinct (facts_of file.facts))
   pub known : AreFactValues (values_of file.facts)

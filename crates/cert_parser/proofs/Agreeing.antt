@@ -1,5 +1,6 @@
 -- What a reader holds beside a file agrees with the file, with one more fact or line too.
-use Rattle.std.proofs.Common.{◌≡◌, ℕ, ◌+◌, ◌<◌, ◌==◌, Bool, true, false, ◌||◌, refl, List, [], ◌∷◌, ◌++◌, length, get_or, map, arith, ℤ}
+use Rattle.std.proofs.Common.{◌≡◌, ℕ, ◌+◌, ◌<◌, ◌==◌, Bool, true, false, ◌||◌, refl, List, [], ◌∷◌, ◌++◌, length}
+use Rattle.std.proofs.Common.{get_or, map, arith, ℤ}
 use Rattle.std.specs.List.{list_any}
 use Rattle.std.specs.BTreeSet.{BTreeSet}
 use Rattle.std.proofs.lemmas.Bool.Decides.{nat_tests}
@@ -17,10 +18,12 @@ longer [] x = refl
 longer (y ∷ xs) x = let e = longer xs x in omega (arith, e)
 
 -- among facts with one more
-among_more : (f fact : Fact) (value : ℤ) (facts : List (Fact × ℤ)) → list_any (fact_eq f) (map (λ e. e.0) (facts ++ (fact, value) ∷ []))
+among_more : (f fact : Fact) (value : ℤ) (facts : List (Fact × ℤ))
+    → list_any (fact_eq f) (map (λ e. e.0) (facts ++ (fact, value) ∷ []))
     ≡ (fact_eq f fact || list_any (fact_eq f) (map (λ e. e.0) facts))
 among_more f fact value [] = refl
-among_more f fact value (e ∷ es) = step (fact_eq f e.0) (fact_eq f fact) (list_any (fact_eq f) (map (λ e. e.0) (es ++ (fact, value) ∷ [])))
+among_more f fact value (e ∷ es) = step (fact_eq f e.0) (fact_eq f fact)
+    (list_any (fact_eq f) (map (λ e. e.0) (es ++ (fact, value) ∷ [])))
     (list_any (fact_eq f) (map (λ e. e.0) es)) (among_more f fact value es)
   where
     step : (a b c d : Bool) → c ≡ (b || d) → (a || c) ≡ (b || (a || d))
@@ -42,7 +45,8 @@ below_more line marks some below i h = by (i == length marks) refl
         let within : i < length marks = omega (arith, h, n, other) in
         rw (get_or_append_left marks (0 ∷ []) 0 i within) (below i within)
 
-pub agrees_with_fact : (file : CertFile) (seen more : List (BTreeSet ℤ)) (marks : List ℕ) (fact : Fact) (value : ℤ) → Agrees file seen marks
+pub agrees_with_fact : (file : CertFile) (seen more : List (BTreeSet ℤ)) (marks : List ℕ) (fact : Fact) (value : ℤ)
+    → Agrees file seen marks
     → HasMore seen fact more → Agrees (record file { facts = file.facts ++ (fact, value) ∷ [] }) more (marks ++ 0 ∷ [])
 agrees_with_fact file seen more marks fact value agrees new = record {
   same = λ f. rw (among_more f fact value file.facts, ← agrees.same f) (new f);

@@ -12,7 +12,8 @@ raw_count : (bytes : List ℕ) → length (raw_lines bytes) ≤ length bytes
 raw_count [] = omega arith
 raw_count (b ∷ bs) = step (b == 10) (raw_count bs)
   where
-    step : (t : Bool) → length (raw_lines bs) ≤ length bs → length (if t then [] ∷ raw_lines bs else onto_first b (raw_lines bs)) ≤ suc (length bs)
+    step : (t : Bool) → length (raw_lines bs) ≤ length bs
+        → length (if t then [] ∷ raw_lines bs else onto_first b (raw_lines bs)) ≤ suc (length bs)
     step true h = omega arith
     step false h = omega (arith, onto_first_length b (raw_lines bs))
 

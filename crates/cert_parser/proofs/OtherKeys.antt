@@ -24,7 +24,8 @@ word_begun b (c ∷ cs) ws = step (is_blank c)
     step false = first_begun b ws
 
 -- so it isn't a key that begins with another byte
-begun_otherwise : (b k : ℕ) (bs ks : List ℕ) → is_blank b ≡ false → (b == k) ≡ false → key_at (k ∷ ks) (words_of (32 ∷ b ∷ bs)) ≡ None
+begun_otherwise : (b k : ℕ) (bs ks : List ℕ) → is_blank b ≡ false → (b == k) ≡ false
+    → key_at (k ∷ ks) (words_of (32 ∷ b ∷ bs)) ≡ None
 unfolding key_at
 begun_otherwise b k bs ks inner other =
     let w = word_begun b bs (words_of bs) in
@@ -36,7 +37,8 @@ not_true true h = absurd (cc)
 not_true false h = refl
 
 -- the same, as the first bytes are read
-pub other_key : (line text : List ℕ) → 2 ≤ length line → 1 ≤ length text → slice_index_or line 0 0 ≡ 32 → is_printable (slice_index_or line 1 0) ≡ true
+pub other_key : (line text : List ℕ) → 2 ≤ length line → 1 ≤ length text → slice_index_or line 0 0 ≡ 32
+    → is_printable (slice_index_or line 1 0) ≡ true
     → IsTrue (not (nat_eq (slice_index_or line 1 0) (slice_index_or text 0 0))) → key_at text (words_of line) ≡ None
 other_key [] text two one space printed other = absurd (omega (arith, two))
 other_key (s ∷ []) text two one space printed other = absurd (omega (arith, two))

@@ -17,7 +17,8 @@ use Rattle.book_model.specs.lines.Lines.{is_printable, IsWord, AreWords}
 use Rattle.line_core.proofs.Digits.{decimal_some, decimal_printed}
 use Rattle.line_core.proofs.SpacedWords.{both}
 use Rattle.cert_parser.specs.Reading.{are_of_facts}
-use Rattle.cert_parser.specs.ReadAgain.{is_text_word, are_echo_words, is_day, is_value, is_wide, is_named_well, is_undecided_test}
+use Rattle.cert_parser.specs.ReadAgain.{is_text_word, are_echo_words, is_day, is_value, is_wide, is_named_well}
+use Rattle.cert_parser.specs.ReadAgain.{is_undecided_test}
 use Rattle.cert_parser.proofs.Spelling.{IsWide, signed_some, signed_printed}
 use Rattle.cert_parser.proofs.Rows.{three}
 use Rattle.cert_parser.proofs.RowTexts.{fact_row, refused_row, undecided_row, void_row, end_row, listed_row}
@@ -46,25 +47,36 @@ site_word s = text_word (site_name s) (site_names_pass is_text_word s refl)
 -- KIND PLACE DAY, and the words after it
 fact_words : (f : Fact) (ws : List (List ℕ)) → is_named_well f ≡ true → AreWords ws
     → AreWords (kind_name f.kind ∷ place_name f.place ∷ signed_decimal f.day ∷ ws)
-fact_words f ws h k = (kind_word f.kind, (place_word f.place, (signed_word f.day (day_wide f.day (both (has_place f.kind f.place) (is_day f.day) h).1), k)))
+fact_words f ws h k = (
+  kind_word f.kind,
+  (place_word f.place, (signed_word f.day (day_wide f.day (both (has_place f.kind f.place) (is_day f.day) h).1), k)),
+)
 
-pub fact_row_words : (n : ℕ) (f : Fact) (v : ℤ) → n ≤ 2 ^ 32 - 1 → is_named_well f ≡ true → is_value v ≡ true → AreWords (fact_row n f v)
-fact_row_words n f v h k l = (counter_word n h, fact_words f (signed_decimal v ∷ []) k (signed_word v (value_wide v l), tt))
+pub fact_row_words : (n : ℕ) (f : Fact) (v : ℤ) → n ≤ 2 ^ 32 - 1 → is_named_well f ≡ true → is_value v ≡ true
+    → AreWords (fact_row n f v)
+fact_row_words n f v h k l =
+    (counter_word n h, fact_words f (signed_decimal v ∷ []) k (signed_word v (value_wide v l), tt))
 
 pub end_row_words : (lines facts : ℕ) → lines ≤ 2 ^ 32 - 1 → facts ≤ 2 ^ 32 - 1 → AreWords (end_row lines facts)
-end_row_words lines facts h k = (text_word (codes "lines") refl, (counter_word lines h, (text_word (codes "facts") refl, (counter_word facts k, tt))))
+end_row_words lines facts h k = (
+  text_word (codes "lines") refl,
+  (counter_word lines h, (text_word (codes "facts") refl, (counter_word facts k, tt))),
+)
 
-pub refused_row_words : (n rule : ℕ) → n ≤ 2 ^ 32 - 1 → (nat_le 1 rule && nat_le rule 4) ≡ true → AreWords (refused_row n rule)
+pub refused_row_words : (n rule : ℕ) → n ≤ 2 ^ 32 - 1 → (nat_le 1 rule && nat_le rule 4) ≡ true
+    → AreWords (refused_row n rule)
 refused_row_words n rule h k =
     let b = both (nat_le 1 rule) (nat_le rule 4) k in
     let fits : rule ≤ 2 ^ 32 - 1 = grind (arith, nat_tests) in
     (counter_word n h, (text_word (codes "refused") refl, (counter_word rule fits, tt)))
 
 -- fact KIND PLACE DAY, at the end
-last_fact_words : (f : Fact) → is_named_well f ≡ true → AreWords (codes "fact" ∷ kind_name f.kind ∷ place_name f.place ∷ signed_decimal f.day ∷ [])
+last_fact_words : (f : Fact) → is_named_well f ≡ true
+    → AreWords (codes "fact" ∷ kind_name f.kind ∷ place_name f.place ∷ signed_decimal f.day ∷ [])
 last_fact_words f h = (text_word (codes "fact") refl, fact_words f [] h tt)
 
-pub undecided_row_words : (n : ℕ) (f : Fact) (u : UndecidedTest) → n ≤ 2 ^ 32 - 1 → is_named_well f ≡ true → is_undecided_test u ≡ true → AreWords (undecided_row n f u)
+pub undecided_row_words : (n : ℕ) (f : Fact) (u : UndecidedTest) → n ≤ 2 ^ 32 - 1 → is_named_well f ≡ true
+    → is_undecided_test u ≡ true → AreWords (undecided_row n f u)
 undecided_row_words n f u h k l =
     let b = three (nat_le u.turn (2 ^ 32 - 1)) (is_wide u.lo) (is_wide u.hi) l in
     let fits : u.turn ≤ 2 ^ 32 - 1 = grind (arith, nat_tests) in (
@@ -73,7 +85,10 @@ undecided_row_words n f u h k l =
         text_word (codes "undecided") refl,
         (
           site_word u.site,
-          (counter_word u.turn fits, (signed_word u.lo (wide_fits u.lo b.1), (signed_word u.hi (wide_fits u.hi b.2), last_fact_words f k))),
+          (
+            counter_word u.turn fits,
+            (signed_word u.lo (wide_fits u.lo b.1), (signed_word u.hi (wide_fits u.hi b.2), last_fact_words f k)),
+          ),
         ),
       ),
     )
@@ -82,10 +97,12 @@ pub void_row_words : (n : ℕ) (f : Fact) (s : Site) → n ≤ 2 ^ 32 - 1 → is
 void_row_words n f s h k = (counter_word n h, (text_word (codes "void") refl, (site_word s, last_fact_words f k)))
 
 -- the numbers of facts
-pub numbers_words : (count : ℕ) (seen ns : List ℕ) → count ≤ 2 ^ 32 - 1 → are_of_facts count seen ns ≡ true → AreWords (map decimal ns)
+pub numbers_words : (count : ℕ) (seen ns : List ℕ) → count ≤ 2 ^ 32 - 1 → are_of_facts count seen ns ≡ true
+    → AreWords (map decimal ns)
 numbers_words count seen [] h k = tt
 numbers_words count seen (n ∷ ns) h k =
-    let all = both (nat_le 1 n && nat_le n count && not (list_any (nat_eq n) seen)) (are_of_facts count (seen ++ n ∷ []) ns) k in
+    let all = both (nat_le 1 n && nat_le n count && not (list_any (nat_eq n) seen))
+    (are_of_facts count (seen ++ n ∷ []) ns) k in
     let one = three (nat_le 1 n) (nat_le n count) (not (list_any (nat_eq n) seen)) all.0 in
     let fits : n ≤ 2 ^ 32 - 1 = grind (arith, nat_tests) in
     (counter_word n fits, numbers_words count (seen ++ n ∷ []) ns h all.1)
@@ -97,22 +114,29 @@ echo_words n echo ws h e k =
     let b = three (is_text_word echo.from) (is_text_word echo.date) (is_text_word echo.to) e in
     (counter_word n h, (text_word echo.from b.0, (text_word echo.date b.1, (text_word echo.to b.2, k))))
 
-pub shown_row_words : (n : ℕ) (echo : Echo) (result ns : List ℕ) → n ≤ 2 ^ 32 - 1 → are_echo_words echo ≡ true → is_text_word result ≡ true
+pub shown_row_words : (n : ℕ) (echo : Echo) (result ns : List ℕ) → n ≤ 2 ^ 32 - 1 → are_echo_words echo ≡ true
+    → is_text_word result ≡ true
     → AreWords (map decimal ns)
     → AreWords (listed_row n echo (result ∷ []) ns)
 shown_row_words n echo result ns h e r k = echo_words n echo (result ∷ codes "facts" ∷ map decimal ns) h e
     (text_word result r, (text_word (codes "facts") refl, k))
 
-pub too_far_row_words : (n : ℕ) (echo : Echo) (day : ℤ) (ns : List ℕ) → n ≤ 2 ^ 32 - 1 → are_echo_words echo ≡ true → is_day day ≡ true
+pub too_far_row_words : (n : ℕ) (echo : Echo) (day : ℤ) (ns : List ℕ) → n ≤ 2 ^ 32 - 1 → are_echo_words echo ≡ true
+    → is_day day ≡ true
     → AreWords (map decimal ns)
     → AreWords (listed_row n echo (codes "refused" ∷ codes "4" ∷ signed_decimal day ∷ []) ns)
 too_far_row_words n echo day ns h e d k =
-    echo_words n echo (codes "refused" ∷ codes "4" ∷ signed_decimal day ∷ codes "facts" ∷ map decimal ns) h e
-    (text_word (codes "refused") refl, (text_word (codes "4") refl, (signed_word day (day_wide day d), (text_word (codes "facts") refl, k))))
+    echo_words n echo (codes "refused" ∷ codes "4" ∷ signed_decimal day ∷ codes "facts" ∷ map decimal ns) h e (
+      text_word (codes "refused") refl,
+      (text_word (codes "4") refl, (signed_word day (day_wide day d), (text_word (codes "facts") refl, k))),
+    )
 
-pub no_date_row_words : (n : ℕ) (echo : Echo) (back ns : List ℕ) → n ≤ 2 ^ 32 - 1 → are_echo_words echo ≡ true → is_text_word back ≡ true
+pub no_date_row_words : (n : ℕ) (echo : Echo) (back ns : List ℕ) → n ≤ 2 ^ 32 - 1 → are_echo_words echo ≡ true
+    → is_text_word back ≡ true
     → AreWords (map decimal ns)
     → AreWords (listed_row n echo (codes "refused" ∷ codes "5" ∷ back ∷ []) ns)
 no_date_row_words n echo back ns h e d k =
-    echo_words n echo (codes "refused" ∷ codes "5" ∷ back ∷ codes "facts" ∷ map decimal ns) h e
-    (text_word (codes "refused") refl, (text_word (codes "5") refl, (text_word back d, (text_word (codes "facts") refl, k))))
+    echo_words n echo (codes "refused" ∷ codes "5" ∷ back ∷ codes "facts" ∷ map decimal ns) h e (
+      text_word (codes "refused") refl,
+      (text_word (codes "5") refl, (text_word back d, (text_word (codes "facts") refl, k))),
+    )

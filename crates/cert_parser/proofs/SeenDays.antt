@@ -1,5 +1,6 @@
 -- Days that were seen, for each kind and place.
-use Rattle.std.proofs.Common.{◌≡◌, ℕ, zero, suc, ap, sym, ◌⊎◌, inl, inr, ◌≤◌, ◌+◌, ◌*◌, ◌<◌, ◌==◌, Bool, true, false, cond, ◌&&◌, ◌||◌, refl, List, [], ◌∷◌}
+use Rattle.std.proofs.Common.{◌≡◌, ℕ, zero, suc, ap, sym, ◌⊎◌, inl, inr, ◌≤◌, ◌+◌, ◌*◌, ◌<◌, ◌==◌, Bool, true, false}
+use Rattle.std.proofs.Common.{cond, ◌&&◌, ◌||◌, refl, List, [], ◌∷◌}
 use Rattle.std.proofs.Common.{◌++◌, length, get_or, arith, ℤ}
 use Rattle.std.specs.Prelude.{slice_set}
 use Rattle.std.specs.List.{slice_get}
@@ -36,7 +37,8 @@ same_rest : (n a b c d : ℕ) → a ≡ c → a * n + b ≡ c * n + d → b ≡ 
 same_rest n a b c d h e = omega (arith, rw h at e)
 
 -- facts of one row have one kind and one place
-pub same_row : (f g : Fact) → row_of f ≡ row_of g → (kind_number f.kind ≡ kind_number g.kind) × (place_number f.place ≡ place_number g.place)
+pub same_row : (f g : Fact) → row_of f ≡ row_of g → (kind_number f.kind ≡ kind_number g.kind)
+    × (place_number f.place ≡ place_number g.place)
 same_row f g h =
     let p : place_number f.place < length PLACES = tag_below (variants place_type) (place_type.to f.place) in
     let q : place_number g.place < length PLACES = tag_below (variants place_type) (place_type.to g.place) in
@@ -50,11 +52,13 @@ either_day : (d e : ℤ) → int_eq d e ≡ int_eq e d
 either_day d e = grind (arith, ints)
 
 -- a row more without a day
-pub none_more : (rows : List (BTreeSet ℤ)) (days : BTreeSet ℤ) → days.keys ≡ [] → ((f : Fact) → has_fact rows f ≡ false) → (f : Fact)
+pub none_more : (rows : List (BTreeSet ℤ)) (days : BTreeSet ℤ) → days.keys ≡ [] → ((f : Fact) → has_fact rows f ≡ false)
+    → (f : Fact)
     → has_fact (rows ++ days ∷ []) f ≡ false
 none_more rows days empty none f = by rows (row_of f) (none f)
   where
-    by : (xs : List (BTreeSet ℤ)) (i : ℕ) → has_day (slice_get xs i) f.day ≡ false → has_day (slice_get (xs ++ days ∷ []) i) f.day ≡ false
+    by : (xs : List (BTreeSet ℤ)) (i : ℕ) → has_day (slice_get xs i) f.day ≡ false
+        → has_day (slice_get (xs ++ days ∷ []) i) f.day ≡ false
     by [] zero h = rw empty refl
     by [] (suc i) h = refl
     by (x ∷ xs) zero h = h
@@ -74,7 +78,8 @@ module _ (rows : List (BTreeSet ℤ)) (fact : Fact) (d : BTreeSet ℤ) (within :
       longer : row_of fact < length (slice_set rows (row_of fact) days)
       longer = rw (length-set rows (row_of fact) days) within
 
-      by : (t : Bool) → (row_of f == row_of fact) ≡ t → has_fact (slice_set rows (row_of fact) days) f ≡ (fact_eq f fact || has_fact rows f)
+      by : (t : Bool) → (row_of f == row_of fact) ≡ t → has_fact (slice_set rows (row_of fact) days) f
+          ≡ (fact_eq f fact || has_fact rows f)
       by true e =
           let same : row_of f ≡ row_of fact = grind (arith, nat_tests, e) in
           let parts = same_row f fact same in
@@ -86,7 +91,8 @@ module _ (rows : List (BTreeSet ℤ)) (fact : Fact) (d : BTreeSet ℤ) (within :
             slice_get-get_or (slice_set rows (row_of fact) days) (row_of fact) d longer,
             get_or-set_same rows (row_of fact) days d within,
           ) refl in
-          let old : has_fact rows f ≡ contains int_cmp (get_or rows (row_of fact) d) f.day = rw (same, slice_get-get_or rows (row_of fact) d within) refl in
+          let old : has_fact rows f ≡ contains int_cmp (get_or rows (row_of fact) d) f.day =
+          rw (same, slice_get-get_or rows (row_of fact) d within) refl in
           rw (new, old, kinds, places, more f.day, either_day f.day fact.day)
           (chosen (int_eq fact.day f.day) (contains int_cmp (get_or rows (row_of fact) d) f.day))
         where
@@ -95,13 +101,15 @@ module _ (rows : List (BTreeSet ℤ)) (fact : Fact) (d : BTreeSet ℤ) (within :
           chosen false b = refl
       by false e =
           let apart : row_of f ≡ row_of fact → ⊥ = λ h. grind (arith, nat_tests, e, h) in
-          let other : fact_eq f fact ≡ false = not_same (kind_number f.kind == kind_number fact.kind) refl (place_number f.place == place_number fact.place)
+          let other : fact_eq f fact ≡ false = not_same (kind_number f.kind == kind_number fact.kind) refl
+          (place_number f.place == place_number fact.place)
           refl apart in
           let there : slice_get (slice_set rows (row_of fact) days) (row_of f)
           ≡ slice_get rows (row_of f) = get-set_other rows (row_of fact) (row_of f) days apart in
           rw (there, other) refl
         where
-          not_same : (a : Bool) → (kind_number f.kind == kind_number fact.kind) ≡ a → (b : Bool) → (place_number f.place == place_number fact.place) ≡ b
+          not_same : (a : Bool) → (kind_number f.kind == kind_number fact.kind) ≡ a → (b : Bool)
+              → (place_number f.place == place_number fact.place) ≡ b
               → (row_of f ≡ row_of fact → ⊥) → (a && b && int_eq f.day fact.day) ≡ false
           not_same true h true k apart =
               let kinds : kind_number f.kind ≡ kind_number fact.kind = grind (arith, nat_tests, h) in
@@ -110,7 +118,8 @@ module _ (rows : List (BTreeSet ℤ)) (fact : Fact) (d : BTreeSet ℤ) (within :
           not_same true h false k apart = refl
           not_same false h b k apart = refl
 
-          get-set_other : {X : Type 0} (xs : List X) (i j : ℕ) (x : X) → (j ≡ i → ⊥) → slice_get (slice_set xs i x) j ≡ slice_get xs j
+          get-set_other : {X : Type 0} (xs : List X) (i j : ℕ) (x : X) → (j ≡ i → ⊥)
+              → slice_get (slice_set xs i x) j ≡ slice_get xs j
           get-set_other [] i j x h = refl
           get-set_other (y ∷ ys) zero zero x h = absurd (h refl)
           get-set_other (y ∷ ys) zero (suc j) x h = refl

@@ -1,5 +1,6 @@
 -- The digits of a number are read as it.
-use Rattle.std.proofs.Common.{◌≡◌, ℕ, zero, suc, ◌-◌, ◌^◌, ◌<◌, ◌≤◌, true, false, List, length, get_or, arith, nat_le, decimal}
+use Rattle.std.proofs.Common.{◌≡◌, ℕ, zero, suc, ◌-◌, ◌^◌, ◌<◌, ◌≤◌, true, false, List, length, get_or, arith, nat_le}
+use Rattle.std.proofs.Common.{decimal}
 use Rattle.std.proofs.lemmas.Bool.Decides.{nat_tests}
 use Rattle.std.proofs.lemmas.Int.{ints}
 use Rattle.std.specs.List.{list_all}
@@ -20,7 +21,8 @@ spelt_well (suc n) ds s =
 -- a number up to the greatest is read from what spells it
 natural_spelt : (g n : ℕ) (ds : List ℕ) → n ≤ g → Spells n ds → natural_of g ds ≡ Some n
 unfolding natural_of
-natural_spelt g n ds h s = rw (spelt_well n ds s, s.value) (let low : nat_le n g ≡ true = grind (arith, nat_tests) in rw low refl)
+natural_spelt g n ds h s = rw (spelt_well n ds s, s.value) (let low : nat_le n g ≡ true = grind (arith, nat_tests) in
+    rw low refl)
 
 -- a number up to the greatest is read from its digits
 pub natural_read : (g n : ℕ) → n ≤ g → n < 10 ^ 64 → natural_of g (decimal n) ≡ Some n
@@ -40,7 +42,8 @@ pub integer_read : (z : ℤ) → IsWide z → integer_of (signed_decimal z) ≡ 
 unfolding integer_of
 integer_read (pos n) h =
     let small : n ≤ 2 ^ 127 - 1 = omega (arith, ints, h.high) in
-    let unsigned : (get_or (decimal n) 0 0 == 45) ≡ false = grind (arith, nat_tests, (digits_spell n (omega arith)).digit) in
+    let unsigned : (get_or (decimal n) 0 0 == 45) ≡ false =
+    grind (arith, nat_tests, (digits_spell n (omega arith)).digit) in
     rw (unsigned, natural_read (2 ^ 127 - 1) n small (omega arith)) refl
 integer_read (negsuc n) h =
     let small : suc n ≤ 2 ^ 127 = omega (arith, ints, h.low) in

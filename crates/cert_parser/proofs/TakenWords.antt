@@ -1,5 +1,6 @@
 -- What words leave once some of them are taken.
-use Rattle.std.specs.Prelude.{◌≡◌, ℕ, ◌&&◌, ◌==◌, not, if◌then◌else◌, Bool, true, false, List, [], ◌∷◌, Some, None, Option, refl}
+use Rattle.std.specs.Prelude.{◌≡◌, ℕ, ◌&&◌, ◌==◌, not, if◌then◌else◌, Bool, true, false, List, [], ◌∷◌, Some, None}
+use Rattle.std.specs.Prelude.{Option, refl}
 use Rattle.std.specs.List.{list_all}
 use Rattle.std.specs.Borrow.{Bor}
 use Rattle.std.proofs.Common.{ap, arith}
@@ -24,7 +25,8 @@ abbrev left_of : {X : Type 0} → Option (X × List (List ℕ)) → List (List �
 left_of None = []
 left_of (Some p) = p.1
 
-pub word_taken : (ws : List (List ℕ)) (word : List ℕ) (rest : List (List ℕ)) → AreWords ws → word_at ws ≡ Some (word, rest) → AreTaken word rest
+pub word_taken : (ws : List (List ℕ)) (word : List ℕ) (rest : List (List ℕ)) → AreWords ws
+    → word_at ws ≡ Some (word, rest) → AreTaken word rest
 word_taken [] word rest h k = absurd (cc)
 word_taken (w ∷ ws) word rest h k =
     let first : w ≡ word = ap taken_of k in
@@ -42,12 +44,14 @@ counter_taken (w ∷ ws) rest n h k = by (counter_of w) k
     by (Some m) e = let others : ws ≡ rest = ap left_of e in rw others at h.1
 
 -- the same of what the reader of a word, and that of a counter, give
-pub after_word : (line : List ℕ) (word rest : Bor (List ℕ)) (o : Option (Bor (List ℕ) × Bor (List ℕ))) → AreWords (words_of line)
+pub after_word : (line : List ℕ) (word rest : Bor (List ℕ)) (o : Option (Bor (List ℕ) × Bor (List ℕ)))
+    → AreWords (words_of line)
     → Gives (λ p. (p.0.now, words_of p.1.now)) o (word_at (words_of line)) → o ≡ Some (word, rest)
     → AreTaken word.now (words_of rest.now)
 after_word line word rest o h gives same = word_taken (words_of line) word.now (words_of rest.now) h (rw same at gives)
 
-pub after_counter : (line : List ℕ) (n : ℕ) (rest : Bor (List ℕ)) (o : Option (ℕ × Bor (List ℕ))) → AreWords (words_of line)
+pub after_counter : (line : List ℕ) (n : ℕ) (rest : Bor (List ℕ)) (o : Option (ℕ × Bor (List ℕ)))
+    → AreWords (words_of line)
     → Gives (λ p. (p.0, words_of p.1.now)) o (counter_at (words_of line)) → o ≡ Some (n, rest)
     → AreWords (words_of rest.now)
 after_counter line n rest o h gives same = counter_taken (words_of line) (words_of rest.now) n h (rw same at gives)
@@ -57,8 +61,10 @@ spaced_plain : (after : Bool) (line : List ℕ) → is_spaced_after after line �
 spaced_plain after [] h = refl
 spaced_plain after (b ∷ bs) h = step (b == 32) refl h (spaced_plain true bs) (spaced_plain false bs)
   where
-    step : (t : Bool) → (b == 32) ≡ t → (if t then not after && is_spaced_after true bs else is_printable b && is_spaced_after false bs) ≡ true
-        → (is_spaced_after true bs ≡ true → list_all is_plain bs ≡ true) → (is_spaced_after false bs ≡ true → list_all is_plain bs ≡ true)
+    step : (t : Bool) → (b == 32) ≡ t
+        → (if t then not after && is_spaced_after true bs else is_printable b && is_spaced_after false bs) ≡ true
+        → (is_spaced_after true bs ≡ true → list_all is_plain bs ≡ true)
+        → (is_spaced_after false bs ≡ true → list_all is_plain bs ≡ true)
         → (is_plain b && list_all is_plain bs) ≡ true
     step true e k one other =
         let p = both (not after) (is_spaced_after true bs) k in

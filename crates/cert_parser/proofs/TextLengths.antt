@@ -25,7 +25,12 @@ line_length n (Void fact site) = omega arith
 
 facts_length : (n : ℕ) (es : List (Fact × ℤ)) → length es ≤ length (fact_texts n es)
 facts_length n [] = omega arith
-facts_length n (e ∷ es) = omega (arith, fact_length n e.0 e.1, facts_length (n + 1) es, length-append (fact_text n e.0 e.1) (fact_texts (n + 1) es))
+facts_length n (e ∷ es) = omega (
+  arith,
+  fact_length n e.0 e.1,
+  facts_length (n + 1) es,
+  length-append (fact_text n e.0 e.1) (fact_texts (n + 1) es),
+)
 
 -- as many bytes as facts and lines
 pub blocks_length : (bs : List Block) → length (facts_of bs) + length bs ≤ length (flat_map block_text bs)

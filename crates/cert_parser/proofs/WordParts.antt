@@ -14,7 +14,8 @@ use Rattle.book_model.specs.declared.fact.TheConstants.{FIRST_FACT_DAY, LAST_FAC
 use Rattle.book_model.specs.declared.version.TheConstants.{WRITTEN}
 use Rattle.book_model.specs.sky.Names.{kind_name, place_name, site_name, has_place}
 use Rattle.book_model.proofs.VersionTables.{all_kinds, all_places, all_sites}
-use Rattle.cert_parser.specs.Grammar.{key_at, kind_at, place_at, site_at, counter_at, number_at, end_at, day_at, value_at, fact_at, test_at, last_fact_at}
+use Rattle.cert_parser.specs.Grammar.{key_at, kind_at, place_at, site_at, counter_at, number_at, end_at, day_at}
+use Rattle.cert_parser.specs.Grammar.{value_at, fact_at, test_at, last_fact_at}
 use Rattle.cert_parser.specs.ReadAgain.{is_day, is_value, is_wide, is_named_well, is_undecided_test}
 use Rattle.cert_parser.proofs.Spelling.{IsWide, counter_read, integer_read}
 use Rattle.cert_parser.proofs.Rows.{three}
@@ -39,10 +40,12 @@ value_wide z h = wide LEAST_VALUE GREATEST_VALUE z (record { low = omega (arith,
     (record { low = omega (arith, ints); high = omega (arith, ints) }) h
 
 pub wide_fits : (z : ℤ) → is_wide z ≡ true → IsWide z
-wide_fits z h = wide (negsuc (2 ^ 127 - 1)) (pos (2 ^ 127 - 1)) z (record { low = omega (arith, ints); high = omega (arith, ints) })
+wide_fits z h = wide (negsuc (2 ^ 127 - 1)) (pos (2 ^ 127 - 1)) z
+    (record { low = omega (arith, ints); high = omega (arith, ints) })
     (record { low = omega (arith, ints); high = omega (arith, ints) }) h
 
-number_here : (low high z : ℤ) (ws : List (List ℕ)) → IsWide z → is_between low high z ≡ true → number_at low high (signed_decimal z ∷ ws) ≡ Some (z, ws)
+number_here : (low high z : ℤ) (ws : List (List ℕ)) → IsWide z → is_between low high z ≡ true
+    → number_at low high (signed_decimal z ∷ ws) ≡ Some (z, ws)
 unfolding number_at
 number_here low high z ws h k = rw (integer_read z h) (rw k refl)
 
@@ -69,22 +72,31 @@ unfolding site_at
 site_here s ws = rw (all_sites s) refl
 
 -- KIND PLACE DAY
-pub fact_here : (f : Fact) (ws : List (List ℕ)) → is_named_well f ≡ true → fact_at WRITTEN (kind_name f.kind ∷ place_name f.place ∷ signed_decimal f.day ∷ ws)
+pub fact_here : (f : Fact) (ws : List (List ℕ)) → is_named_well f ≡ true
+    → fact_at WRITTEN (kind_name f.kind ∷ place_name f.place ∷ signed_decimal f.day ∷ ws)
     ≡ Some (Some f, ws)
 unfolding fact_at
 fact_here f ws h =
     let b = both (has_place f.kind f.place) (is_day f.day) h in
-    rw (kind_here f.kind (place_name f.place ∷ signed_decimal f.day ∷ ws), place_here f.place (signed_decimal f.day ∷ ws), day_here f.day ws b.1, b.0) refl
+    rw (
+      kind_here f.kind (place_name f.place ∷ signed_decimal f.day ∷ ws),
+      place_here f.place
+          (signed_decimal f.day ∷ ws),
+      day_here f.day ws b.1,
+      b.0,
+    ) refl
 
 -- fact KIND PLACE DAY, at the end
 pub last_fact_here : (f : Fact) → is_named_well f ≡ true
-    → last_fact_at WRITTEN (codes "fact" ∷ kind_name f.kind ∷ place_name f.place ∷ signed_decimal f.day ∷ []) ≡ Some (Some f)
+    → last_fact_at WRITTEN (codes "fact" ∷ kind_name f.kind ∷ place_name f.place ∷ signed_decimal f.day ∷ []) ≡ Some
+    (Some f)
 unfolding last_fact_at key_at
 last_fact_here f h = rw (fact_here f [] h) refl
 
 -- SITE TURN LO HI
 pub test_here : (u : UndecidedTest) (ws : List (List ℕ)) → is_undecided_test u ≡ true
-    → test_at WRITTEN (site_name u.site ∷ decimal u.turn ∷ signed_decimal u.lo ∷ signed_decimal u.hi ∷ ws) ≡ Some (u, ws)
+    → test_at WRITTEN (site_name u.site ∷ decimal u.turn ∷ signed_decimal u.lo ∷ signed_decimal u.hi ∷ ws) ≡ Some
+    (u, ws)
 unfolding test_at
 test_here u ws h =
     let b = three (nat_le u.turn (2 ^ 32 - 1)) (is_wide u.lo) (is_wide u.hi) h in

@@ -1,5 +1,6 @@
 -- The numbers of a certificate, and how its words spell them.
-use Rattle.std.specs.Prelude.{ℕ, ◌-◌, ◌^◌, ◌==◌, ◌&&◌, ◌||◌, not, nat_le, nat_lt, if◌then◌else◌, Bool, List, length, drop, slice_index, ℤ, pos, negsuc, Some, None, Option}
+use Rattle.std.specs.Prelude.{ℕ, ◌-◌, ◌^◌, ◌==◌, ◌&&◌, ◌||◌, not, nat_le, nat_lt, if◌then◌else◌, Bool, List, length}
+use Rattle.std.specs.Prelude.{drop, slice_index, ℤ, pos, negsuc, Some, None, Option}
 use Rattle.book_model.specs.sky.Correction.{is_between}
 use Rattle.book_model.specs.lines.Lines.{value_from}
 
@@ -35,7 +36,8 @@ from_zero (Some n) = Some (pos n)
 
 -- the number of 128 bits that a word spells, with a minus sign where it is below 0
 unfoldable pub integer_of : List ℕ → Option ℤ
-integer_of word = if slice_index word 0 == 45 then below_zero (natural_of (2 ^ 127) (drop 1 word)) else from_zero (natural_of (2 ^ 127 - 1) word)
+integer_of word = if slice_index word 0 == 45 then below_zero (natural_of (2 ^ 127) (drop 1 word))
+    else from_zero (natural_of (2 ^ 127 - 1) word)
 
 -- the number, where it lies from low to high
 abbrev pub between : ℤ → ℤ → Option ℤ → Option ℤ

@@ -1,5 +1,6 @@
 -- The grammar of certificates: the form of a line of a file of a version, word by word.
-use Rattle.std.specs.Prelude.{ℕ, ◌==◌, ◌&&◌, not, nat_le, nat_eq, if◌then◌else◌, Bool, true, false, List, [], ◌∷◌, codes, ℤ, Some, None, Option, option_and_then}
+use Rattle.std.specs.Prelude.{ℕ, ◌==◌, ◌&&◌, not, nat_le, nat_eq, if◌then◌else◌, Bool, true, false, List, [], ◌∷◌}
+use Rattle.std.specs.Prelude.{codes, ℤ, Some, None, Option, option_and_then}
 use lib.Pointwise.{pointwise}
 use Rattle.book_model.specs.declared.site.Site.{Site}
 use Rattle.book_model.specs.declared.fact.Fact.{Fact}
@@ -33,7 +34,8 @@ or_else (Some x) second = Some x
 -- each word is followed by one space or by the end; where a space was last, a word has to come
 abbrev pub is_spaced_after : Bool → List ℕ → Bool
 is_spaced_after after_space [] = not after_space
-is_spaced_after after_space (b ∷ bs) = if b == 32 then not after_space && is_spaced_after true bs else is_printable b && is_spaced_after false bs
+is_spaced_after after_space (b ∷ bs) = if b == 32 then not after_space && is_spaced_after true bs
+    else is_printable b && is_spaced_after false bs
 
 -- a line is words with single spaces between them
 abbrev pub is_spaced : List ℕ → Bool
@@ -109,7 +111,8 @@ site_at version ws = do
 
 -- the fact, where the place is one of the kind's places
 abbrev pub fact_with : Kind → Place → ℤ → Option Fact
-fact_with kind place day = if has_place kind place then Some (record { kind = kind; place = place; day = day }) else None
+fact_with kind place day = if has_place kind place then Some (record { kind = kind; place = place; day = day })
+    else None
 
 -- KIND PLACE DAY
 unfoldable pub fact_at : Version → List (List ℕ) → Option (Option Fact × List (List ℕ))

@@ -8,8 +8,10 @@ AreBelow line marks = (i : ℕ) → i < length marks → slice_index_or marks i 
 
 -- there is a fact with this number, and the line hasn't listed it yet
 abbrev pub is_unlisted : List ℕ → ℕ → ℕ → Bool
-is_unlisted marks line number = nat_le 1 number && nat_le number (length marks) && not (nat_eq (slice_index_or marks (number - 1) 0) line)
+is_unlisted marks line number = nat_le 1 number && nat_le number (length marks) && not
+    (nat_eq (slice_index_or marks (number - 1) 0) line)
 
 -- the facts that are marked by the line are those with these numbers
 abbrev pub MarksAre : List ℕ → ℕ → List ℕ → Type 0
-MarksAre marks line numbers = (n : ℕ) → 1 ≤ n → n ≤ length marks → nat_eq (slice_index_or marks (n - 1) 0) line ≡ list_any (nat_eq n) numbers
+MarksAre marks line numbers = (n : ℕ) → 1 ≤ n → n ≤ length marks → nat_eq (slice_index_or marks (n - 1) 0) line
+    ≡ list_any (nat_eq n) numbers

@@ -1,5 +1,6 @@
 -- What is written between the header and a right end line, and that it is read again.
-use Rattle.std.specs.Prelude.{◌≡◌, ℕ, ◌+◌, ◌-◌, ◌^◌, ◌≤◌, ◌==◌, ◌&&◌, nat_le, nat_lt, Bool, true, List, [], ◌∷◌, ◌++◌, length, map, ℤ, pos, negsuc, Some}
+use Rattle.std.specs.Prelude.{◌≡◌, ℕ, ◌+◌, ◌-◌, ◌^◌, ◌≤◌, ◌==◌, ◌&&◌, nat_le, nat_lt, Bool, true, List, [], ◌∷◌, ◌++◌}
+use Rattle.std.specs.Prelude.{length, map, ℤ, pos, negsuc, Some}
 use Rattle.std.specs.List.{list_all, flat_map}
 use Rattle.book_model.specs.declared.fact.Fact.{Fact}
 use Rattle.book_model.specs.declared.fact.TheConstants.{FIRST_FACT_DAY, LAST_FACT_DAY, LEAST_VALUE, GREATEST_VALUE}
@@ -55,12 +56,15 @@ has_form (Void fact site) = is_named_well fact
 -- facts that are numbered on after those before them, of which each has a form and is none of those before it
 abbrev pub are_new : List (Fact × ℤ) → ℕ → List (Fact × ℤ) → Bool
 are_new before number [] = true
-are_new before number (e ∷ es) = ((number == length before + 1) && is_named_well e.0 && is_value e.1 && is_new before (Some e.0)) && are_new (before ++ e ∷ [])
+are_new before number (e ∷ es) = ((number == length before + 1) && is_named_well e.0 && is_value e.1 && is_new before
+    (Some e.0)) && are_new (before ++ e ∷ [])
     (number + 1) es
 
--- after so many lines and these facts: the block's facts are new, and its line is numbered on, has a form and lists distinct facts
+-- after so many lines and these facts: the block's facts are new, and its line is numbered on, has a form and lists
+-- distinct facts
 abbrev pub may_follow : ℕ → List (Fact × ℤ) → Block → Bool
-may_follow lines facts b = are_new facts b.first b.facts && (b.number == lines + 1) && has_form b.line && are_of_facts (length (facts ++ b.facts)) []
+may_follow lines facts b = are_new facts b.first b.facts && (b.number == lines + 1) && has_form b.line && are_of_facts
+    (length (facts ++ b.facts)) []
     (listed b.line)
 
 -- after so many lines and these facts: each block may follow those before it
@@ -74,9 +78,12 @@ facts_of blocks = flat_map (λ b. b.facts) blocks
 
 -- the header, the blocks, and the right end line
 abbrev pub file_text : List Block → List ℕ
-file_text blocks = header_of WRITTEN ++ (flat_map block_text blocks ++ end_text (length blocks) (length (facts_of blocks)))
+file_text blocks = header_of WRITTEN ++ (flat_map block_text blocks ++ end_text (length blocks)
+    (length (facts_of blocks)))
 
--- what is written so is read again, as the same facts and lines in a file of the version that is written, up to the length of a file
+-- what is written so is read again, as the same facts and lines in a file of the version that is written, up to the
+-- length of a file
 abbrev pub AreReadAgain : List Block → Type 0
 AreReadAgain blocks = are_in_order 0 [] blocks ≡ true → length (file_text blocks) ≤ 268435456
-    → grammar_of (file_text blocks) ≡ file (record { version = WRITTEN; facts = facts_of blocks; lines = map (λ b. b.line) blocks })
+    → grammar_of (file_text blocks) ≡ file
+    (record { version = WRITTEN; facts = facts_of blocks; lines = map (λ b. b.line) blocks })

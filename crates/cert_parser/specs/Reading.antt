@@ -1,5 +1,7 @@
--- What a certificate is: its facts and lines in order, or the first line that breaks a rule, with the first rule that it breaks.
-use Rattle.std.specs.Prelude.{◌≡◌, ℕ, ◌+◌, ◌≤◌, ◌==◌, ◌&&◌, not, nat_le, nat_eq, if◌then◌else◌, Bool, true, false, List, [], ◌∷◌, ◌++◌, length, map, ℤ, Some, None, Option, is_some, Result, Ok, Err}
+-- What a certificate is: its facts and lines in order, or the first line that breaks a rule, with the first rule that
+-- it breaks.
+use Rattle.std.specs.Prelude.{◌≡◌, ℕ, ◌+◌, ◌≤◌, ◌==◌, ◌&&◌, not, nat_le, nat_eq, if◌then◌else◌, Bool, true, false, List}
+use Rattle.std.specs.Prelude.{[], ◌∷◌, ◌++◌, length, map, ℤ, Some, None, Option, is_some, Result, Ok, Err}
 use Rattle.std.specs.List.{list_any}
 use Rattle.book_model.specs.declared.fact.Fact.{Fact}
 use Rattle.book_model.specs.declared.version.Version.{Version}
@@ -66,7 +68,8 @@ is_fresh before (forms.End lines facts) = true
 -- each of the numbers is that of a fact, and none of those before it
 abbrev pub are_of_facts : ℕ → List ℕ → List ℕ → Bool
 are_of_facts count seen [] = true
-are_of_facts count seen (n ∷ ns) = (nat_le 1 n && nat_le n count && not (list_any (nat_eq n) seen)) && are_of_facts count (seen ++ n ∷ []) ns
+are_of_facts count seen (n ∷ ns) = (nat_le 1 n && nat_le n count && not (list_any (nat_eq n) seen)) && are_of_facts
+    count (seen ++ n ∷ []) ns
 
 -- the numbers that a line lists are distinct and belong to earlier facts
 abbrev pub lists_facts : CertFile → Form → Bool
@@ -91,7 +94,8 @@ first_broken (r ∷ rs) = if r.1 then first_broken rs else Some r.0
 
 -- the first rule that a form breaks after these facts and lines, and after the end line where that has come
 unfoldable pub broken_by : CertFile → Bool → Form → Option ℕ
-broken_by before ended form = first_broken ((3, is_numbered before form) ∷ (7, is_placed form) ∷ (4, is_fresh before form) ∷ (5, lists_facts before form) ∷
+broken_by before ended form = first_broken ((3, is_numbered before form) ∷ (7, is_placed form)
+    ∷ (4, is_fresh before form) ∷ (5, lists_facts before form) ∷
     (6, not ended && counts_well before form) ∷ [])
 
 abbrev pub with_fact : CertFile → Option Fact → ℤ → CertFile

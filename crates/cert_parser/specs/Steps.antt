@@ -14,9 +14,11 @@ Breaks (Err Memory) broken = Unit {0}
 
 -- after a line of this form the reading goes on with this file
 pub record Passes (before : CertFile) (ended : Bool) (form : Option Form) (after : CertFile) (end : Bool) : Type 0 where
-  pub goes_on : (number : ℕ) (next : CertFile → Bool → Reading) → after_form number before ended form next ≡ next after end
+  pub goes_on : (number : ℕ) (next : CertFile → Bool → Reading) → after_form number before ended form next ≡ next
+      after end
 
 -- a line of this form breaks a rule, or memory ran out
 abbrev pub Fails : LineFault → CertFile → Bool → Option Form → Type 0
-Fails (Rule rule) before ended form = (number : ℕ) (next : CertFile → Bool → Reading) → after_form number before ended form next ≡ bad number rule
+Fails (Rule rule) before ended form = (number : ℕ) (next : CertFile → Bool → Reading)
+    → after_form number before ended form next ≡ bad number rule
 Fails Memory before ended form = Unit {0}

@@ -1,5 +1,6 @@
 -- Outcomes that are right for lines, none of them undecided, are settled by the lines.
-use Rattle.std.proofs.Common.{◌≡◌, ◌∙◌, sym, ℕ, Bool, true, false, if◌then◌else◌, ℤ, List, [], ◌∷◌, length, filter, refl, ap, arith}
+use Rattle.std.proofs.Common.{◌≡◌, ◌∙◌, sym, ℕ, Bool, true, false, if◌then◌else◌, ℤ, List, [], ◌∷◌, length, filter}
+use Rattle.std.proofs.Common.{refl, ap, arith}
 use Rattle.std.specs.Prelude.{Result, Ok, Err}
 use Rattle.book_model.specs.declared.fact.Fact.{Fact}
 use Rattle.book_model.specs.declared.request.Request.{Request}
@@ -9,24 +10,29 @@ use Rattle.book_model.specs.declared.site.Site.{Site}
 use Rattle.book_model.specs.declared.version.Version.{Version}
 use Rattle.book_model.specs.declared.version.TheConstants.{WRITTEN}
 use Rattle.book_model.specs.sky.Facts.{run_of, IsVoidAt}
-use Rattle.book_model.specs.calendars.Inquiries.{Inquiry, found, stopped, finding, finding_after, with_entry, AsksAt, asks_here, asks_after}
+use Rattle.book_model.specs.calendars.Inquiries.{Inquiry, found, stopped, finding, finding_after, with_entry, AsksAt}
+use Rattle.book_model.specs.calendars.Inquiries.{asks_here, asks_after}
 use Rattle.book_model.specs.lines.LineRules.{rule_of}
-use Rattle.book_model.specs.lines.Outcomes.{LineOutcome, refused, resolved, undecided, void, HasResult, AsksAlways, IsRightForRow, AreRight}
+use Rattle.book_model.specs.lines.Outcomes.{LineOutcome, refused, resolved, undecided, void, HasResult, AsksAlways}
+use Rattle.book_model.specs.lines.Outcomes.{IsRightForRow, AreRight}
 use Rattle.book_model.specs.programs.Programs.{outcome, void_at}
 use Rattle.book_model.specs.lines.Requests.{request_of}
 use Rattle.book_model.specs.lines.Text.{text}
 use Rattle.cert_text.specs.Laws.{is_undecided, HasNoneUndecided, HasOneText}
 
 -- at a fact without a value that an inquiry asks, its finding returns early
-stops_at : {A : Type 0} (n : ℕ) (seen : List (Fact × ℤ)) (i : Inquiry A) (f : Fact) (s : Site) → AsksAt n i f → outcome (run_of n f) ≡ void_at s
+stops_at : {A : Type 0} (n : ℕ) (seen : List (Fact × ℤ)) (i : Inquiry A) (f : Fact) (s : Site) → AsksAt n i f
+    → outcome (run_of n f) ≡ void_at s
     → finding_after n seen i ≡ stopped f
 unfolding finding_after
 stops_at n seen i f s asks_here e = rw e refl
 stops_at n seen i f s (asks_after {g = g} {v = v} here more) e = rw here (stops_at n (with_entry seen g v) _ f s more e)
 
 -- so it does at the fact of a request that is void
-void_found : (version : Version) (r : Request) (f : Fact) (s : Site) → AsksAlways version r f → IsVoidAt f s → finding 40 (rule_of version r) ≡ stopped f
-void_found version r f s a v = stops_at 40 [] (rule_of version r) f s (a.at_each_depth 40 (omega arith)) (v.at_each_depth 40 (omega arith))
+void_found : (version : Version) (r : Request) (f : Fact) (s : Site) → AsksAlways version r f → IsVoidAt f s
+    → finding 40 (rule_of version r) ≡ stopped f
+void_found version r f s a v = stops_at 40 [] (rule_of version r) f s (a.at_each_depth 40 (omega arith))
+    (v.at_each_depth 40 (omega arith))
 
 -- a result is one
 one_result : (version : Version) (r : Request) (x y : Resolved) (es ds : List (Fact × ℤ))
@@ -63,7 +69,8 @@ one_void version r f g s t a v b w =
 
 -- two outcomes that are right for a row, neither of them undecided, are one
 one_outcome : (version : Version) (row : Result Request Rule) (o p : LineOutcome)
-    → IsRightForRow version row o → IsRightForRow version row p → is_undecided o ≡ false → is_undecided p ≡ false → o ≡ p
+    → IsRightForRow version row o → IsRightForRow version row p → is_undecided o ≡ false → is_undecided p ≡ false
+    → o ≡ p
 one_outcome version (Err rule) o p h k a b = rw (h, k) refl
 one_outcome version (Ok r) (undecided f u) p h k a b = absurd (cc)
 one_outcome version (Ok r) o (undecided f u) h k a b = absurd (cc)
@@ -75,10 +82,12 @@ one_outcome version (Ok r) (void f s) (resolved y ds) h k a b = absurd (result_o
 one_outcome version (Ok r) (void f s) (void g t) h k a b = one_void version r f g s t h.0 h.1 k.0 k.1
 
 -- none of several is undecided: not the first, and none of the others
-none_of : (o : LineOutcome) (os : List LineOutcome) → HasNoneUndecided (o ∷ os) → (is_undecided o ≡ false) × HasNoneUndecided os
+none_of : (o : LineOutcome) (os : List LineOutcome) → HasNoneUndecided (o ∷ os) → (is_undecided o ≡ false)
+    × HasNoneUndecided os
 none_of o os h = by (is_undecided o) refl h
   where
-    by : (t : Bool) → is_undecided o ≡ t → length (if t then o ∷ filter is_undecided os else filter is_undecided os) ≡ 0 → (is_undecided o ≡ false)
+    by : (t : Bool) → is_undecided o ≡ t → length (if t then o ∷ filter is_undecided os else filter is_undecided os) ≡ 0
+        → (is_undecided o ≡ false)
         × (length (filter is_undecided os) ≡ 0)
     by true e k = absurd (omega arith)
     by false e k = (e, k)

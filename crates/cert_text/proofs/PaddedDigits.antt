@@ -1,5 +1,6 @@
 -- The last digits of a number, by its quotients by ten.
-use Rattle.std.proofs.Common.{◌≡◌, ◌∙◌, ℕ, zero, suc, ◌+◌, ◌-◌, ◌/◌, ◌%◌, ◌^◌, ◌<◌, ◌≤◌, List, [], ◌∷◌, ◌++◌, length, length-append, append_assoc, ap, sym, refl, arith}
+use Rattle.std.proofs.Common.{◌≡◌, ◌∙◌, ℕ, zero, suc, ◌+◌, ◌-◌, ◌/◌, ◌%◌, ◌^◌, ◌<◌, ◌≤◌, List, [], ◌∷◌, ◌++◌, length}
+use Rattle.std.proofs.Common.{length-append, append_assoc, ap, sym, refl, arith}
 use Rattle.std.proofs.Math.Nat.{pow-suc}
 use Rattle.std.proofs.lemmas.Fmt.{decimal_by_steps_wide}
 use Rattle.std.proofs.lemmas.List.{replicate-append-replicate}
@@ -45,7 +46,8 @@ digit_more n ds h prefix = λ k below. step k below
     step (suc k) below =
         let less : n / 10 < 10 ^ suc k = omega (arith, pow-suc 10 (suc k)) in
         let rest = prefix k less in
-        let longer : length (ds ++ (48 + n % 10) ∷ []) ≡ suc (length ds) = omega (arith, length-append ds ((48 + n % 10) ∷ [])) in
+        let longer : length (ds ++ (48 + n % 10) ∷ []) ≡ suc (length ds) =
+        omega (arith, length-append ds ((48 + n % 10) ∷ [])) in
         let width : suc (suc k) - suc (length ds) ≡ suc k - length ds = omega arith in
         record {
           short = omega (arith, longer, rest.short);

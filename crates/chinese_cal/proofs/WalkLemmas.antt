@@ -1,12 +1,14 @@
 -- The recursion over the months before one is a walk back over them, and then forwards, for every table.
-use Rattle.std.proofs.Common.{◌≡◌, ◌∙◌, ℕ, zero, suc, ◌-◌, ◌<◌, ◌≤◌, arith, Bool, true, false, refl, sym, ℤ, pos, List, [], ◌∷◌, length, take, drop, slice_index_or, if◌then◌else◌, int_lt}
+use Rattle.std.proofs.Common.{◌≡◌, ◌∙◌, ℕ, zero, suc, ◌-◌, ◌<◌, ◌≤◌, arith, Bool, true, false, refl, sym, ℤ, pos, List}
+use Rattle.std.proofs.Common.{[], ◌∷◌, length, take, drop, slice_index_or, if◌then◌else◌, int_lt}
 use Rattle.std.proofs.Math.Seq.{take-length}
 use Rattle.book_model.specs.calendars.Chinese.{bare, prior, moon_before_fact}
 use Rattle.book_model.specs.calendars.Inquiries.{Inquiry, done, ask, and_then}
 use Rattle.chinese_cal.specs.Walks.{months_back, one_bare}
 
 -- one inquiry after another, in either grouping
-regrouped : {A B C : Type 0} (i : Inquiry A) (f : A → Inquiry B) (g : B → Inquiry C) → and_then (and_then i f) g ≡ and_then i (λ a. and_then (f a) g)
+regrouped : {A B C : Type 0} (i : Inquiry A) (f : A → Inquiry B) (g : B → Inquiry C)
+    → and_then (and_then i f) g ≡ and_then i (λ a. and_then (f a) g)
 unfolding and_then
 regrouped (done a) f g = refl
 regrouped (ask x next) f g = λ j. ask x (λ v. regrouped (next v) f g j)
@@ -30,7 +32,8 @@ abbrev or_bare : ℤ → Bool → Inquiry Bool
 or_bare month found = if found then done true else bare month
 
 -- a month comes before those after it
-month_first : (month : ℤ) (later : List ℤ) (found : Bool) → and_then (or_bare month found) (or_one_bare later) ≡ or_one_bare (month ∷ later) found
+month_first : (month : ℤ) (later : List ℤ) (found : Bool) → and_then (or_bare month found) (or_one_bare later)
+    ≡ or_one_bare (month ∷ later) found
 unfolding and_then one_bare
 month_first month later true = refl
 month_first month later false = refl
@@ -39,7 +42,8 @@ month_first month later false = refl
 stepped : (first month : ℤ) (later : List ℤ) (back : ℤ → Inquiry (List ℤ)) (before : ℤ → Inquiry Bool)
     → ((m : ℤ) → and_then (back m) one_bare ≡ and_then (before m) (or_one_bare (month ∷ later))) → (past : Bool)
     → and_then (if past then done later else ask (moon_before_fact month) back) one_bare
-    ≡ and_then (if past then done false else ask (moon_before_fact month) (λ m. and_then (before m) (or_bare month))) (or_one_bare later)
+    ≡ and_then (if past then done false else ask (moon_before_fact month) (λ m. and_then (before m) (or_bare month)))
+    (or_one_bare later)
 unfolding and_then
 stepped first month later back before rest true = refl
 stepped first month later back before rest false = λ j. ask (moon_before_fact month) (λ m. one m j)
@@ -54,11 +58,13 @@ walked : (calls : ℕ) (first month : ℤ) (later : List ℤ) → and_then (mont
     ≡ and_then (prior calls first month) (or_one_bare later)
 unfolding and_then months_back prior
 walked zero first month later = refl
-walked (suc calls) first month later = stepped first month later (λ m. months_back calls first m (month ∷ later)) (prior calls first)
+walked (suc calls) first month later = stepped first month later (λ m. months_back calls first m (month ∷ later))
+    (prior calls first)
     (λ m. walked calls first m (month ∷ later)) (int_lt month first)
 
 -- the recursion is the walk
-pub prior_is_walk : (calls : ℕ) (first month : ℤ) → prior calls first month ≡ and_then (months_back calls first month []) one_bare
+pub prior_is_walk : (calls : ℕ) (first month : ℤ)
+    → prior calls first month ≡ and_then (months_back calls first month []) one_bare
 unfolding one_bare
 prior_is_walk calls first month = sym (settled (prior calls first month)) ∙ sym (walked calls first month [])
 
@@ -75,12 +81,14 @@ unfolding one_bare
 first_bare [] h = absurd (omega (arith, h))
 first_bare (month ∷ later) h =
     let e : length (month ∷ later) - 1 ≡ length later = omega arith in
-    let others : later ≡ take (length (month ∷ later) - 1) later = sym (take-length later) ∙ (λ k. take (sym e k) later) in
+    let others : later ≡ take (length (month ∷ later) - 1) later = sym (take-length later) ∙ (λ k. take (sym e k) later)
+    in
     λ j. and_then (bare month) (λ is_bare. if is_bare then done true else one_bare (others j))
 
 -- a step of the walk back
 pub one_back : (calls : ℕ) (first month : ℤ) (later : List ℤ) → 1 ≤ calls → int_lt month first ≡ false
-    → months_back calls first month later ≡ ask (moon_before_fact month) (λ before. months_back (calls - 1) first before (month ∷ later))
+    → months_back calls first month later ≡ ask (moon_before_fact month) (λ before. months_back (calls - 1) first before
+    (month ∷ later))
 unfolding months_back
 one_back zero first month later h not_past = absurd (omega (arith, h))
 one_back (suc calls) first month later h not_past =

@@ -6,4 +6,8 @@ use Rattle.chinese_cal.specs.declared.date.ChineseDate.{ChineseDate}
 
 -- cycle, year, month, leap month and day
 abbrev pub fields_of_date : ChineseDate → Fields
-fields_of_date date = record { count = 5; values = date.cycle ∷ pos date.year ∷ pos date.month ∷ flag date.leap ∷ pos date.day ∷ [] }
+fields_of_date date = record {
+  count = 5;
+  values = date.cycle ∷ pos date.year ∷ pos date.month ∷ flag date.leap
+      ∷ pos date.day ∷ [];
+}

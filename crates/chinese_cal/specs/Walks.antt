@@ -3,8 +3,8 @@ use Rattle.std.specs.Prelude.{ℕ, zero, suc, if◌then◌else◌, Bool, true, f
 use Rattle.book_model.specs.calendars.Chinese.{moon_before_fact, bare}
 use Rattle.book_model.specs.calendars.Inquiries.{Inquiry, done, ask, and_then}
 
--- a month, and the months before it as far as the first of its sui, put before the months after it, the earliest first; so
--- many at most
+-- a month, and the months before it as far as the first of its sui, put before the months after it, the earliest first;
+-- so many at most
 unfoldable pub months_back : ℕ → ℤ → ℤ → List ℤ → Inquiry (List ℤ)
 months_back zero first month later = done later
 months_back (suc calls) first month later =

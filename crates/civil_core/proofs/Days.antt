@@ -24,7 +24,8 @@ year_from_one : (day : ℤ) → pos 1 ≤ℤ day → pos 1 ≤ℤ year_of_day da
 year_from_one day h =
     let y = year_is day in
     by_lt_z (year_of_day day) (pos 1)
-    (λ l. let r = first_day_rises (year_of_day day +ℤ pos 1) (pos 1) (omega (arith, ints)) in absurd (omega (arith, ints, r, first_of_all, y.not_over)))
+    (λ l. let r = first_day_rises (year_of_day day +ℤ pos 1) (pos 1) (omega (arith, ints)) in
+    absurd (omega (arith, ints, r, first_of_all, y.not_over)))
     (λ l. l)
 
 -- and a day of a year from 1 on is day 1 or a later one
@@ -43,19 +44,23 @@ year_of_date_from_one date n e from =
 -- a date of a year that is no less than 0
 pub has_date_is : (y m d : ℕ) → has_date (pos y) m d ≡ is_date y m d
 has_date_is zero m d = refl
-has_date_is (suc y) m d = let e : int_lt (pos 0) (pos (suc y)) ≡ true = grind (arith, ints) in ap (λ b. b && is_date (suc y) m d) e
+has_date_is (suc y) m d = let e : int_lt (pos 0) (pos (suc y)) ≡ true = grind (arith, ints) in
+    ap (λ b. b && is_date (suc y) m d) e
 
-at_date : (date : Date) (n : ℤ) (y m : ℕ) → date.year ≡ pos y → date.month ≡ suc m → epoch_day date +ℤ pos 719163 ≡ n → 1 ≤ y
+at_date : (date : Date) (n : ℤ) (y m : ℕ) → date.year ≡ pos y → date.month ≡ suc m → epoch_day date +ℤ pos 719163 ≡ n
+    → 1 ≤ y
     → IsDateOfDay (pos y) (suc m) date.day n
 at_date date n y m year month e first =
     let of_year : year_of_day n ≡ pos y = rw (e, year) at (year_agrees date) in
-    let number : fixed_of y (suc m) date.day ≡ n = rw e at (day_agrees date y (suc m) date.day (year, ap pos month, refl)) in
+    let number : fixed_of y (suc m) date.day ≡ n =
+    rw e at (day_agrees date y (suc m) date.day (year, ap pos month, refl)) in
     let is = rw (year, month) at (civil date) in
     let parts = date_of_day n y m date.day number of_year (omega (arith, is.1)) is.2.0 is.2.1 in
     let range = epoch_day_range date in
     let from : pos 1 ≤ℤ year_of_day n = rw of_year (omega (arith, ints)) in
     let in_year : IsBetween (pos 1) (pos 12) (pos (suc m)) = (omega (arith, ints), omega (arith, ints, is.1)) in
-    let in_month : IsBetween (pos 1) (pos (days_in_month y (suc m))) (pos date.day) = (omega (arith, ints, is.2.0), omega (arith, ints, is.2.1)) in
+    let in_month : IsBetween (pos 1) (pos (days_in_month y (suc m))) (pos date.day) =
+    (omega (arith, ints, is.2.0), omega (arith, ints, is.2.1)) in
     record {
       has = rw (has_date_is y (suc m) date.day) (is_date_of y (suc m) date.day (is.0, in_year, in_month) first);
       number = number;
@@ -71,7 +76,8 @@ natural (pos n) h = (n, refl)
 natural (negsuc n) h = absurd (omega (arith, ints))
 
 -- jiff's date of a year from 1 on is the date of its day
-pub date_is_of_day : (date : Date) (n : ℤ) → epoch_day date +ℤ pos 719163 ≡ n → pos 1 ≤ℤ date.year → IsDateOfDay date.year date.month date.day n
+pub date_is_of_day : (date : Date) (n : ℤ) → epoch_day date +ℤ pos 719163 ≡ n → pos 1 ≤ℤ date.year
+    → IsDateOfDay date.year date.month date.day n
 date_is_of_day date n e from =
     let y = natural date.year from in
     let is = civil date in
@@ -79,7 +85,8 @@ date_is_of_day date n e from =
     rw (y.1, month) (at_date date n y.0 (date.month - 1) y.1 month e (omega (arith, ints, y.1)))
 
 -- the same of a date with these numbers
-pub named_is_of_day : (date : Date) (year n : ℤ) (month day : ℕ) → IsYmd year (pos month) (pos day) date → IsTrue (has_date year month day)
+pub named_is_of_day : (date : Date) (year n : ℤ) (month day : ℕ) → IsYmd year (pos month) (pos day) date
+    → IsTrue (has_date year month day)
     → epoch_day date +ℤ pos 719163 ≡ n → IsDateOfDay year month day n
 named_is_of_day date year n month day named has e =
     let same_month : date.month ≡ month = omega (arith, ints, named.1) in
@@ -88,7 +95,8 @@ named_is_of_day date year n month day named has e =
     rw (named.0, same_month, same_day) at (date_is_of_day date n e from)
 
 -- a date is found exactly where the calendar has it
-pub found_exactly : {T E : Type 0} (r : Result T E) (year z k l : ℤ) (m d : ℕ) → z ≡ year → k ≡ pos m → l ≡ pos d → pos 1 ≤ℤ year → IsOk r ↔ IsDate z k l
+pub found_exactly : {T E : Type 0} (r : Result T E) (year z k l : ℤ) (m d : ℕ) → z ≡ year → k ≡ pos m → l ≡ pos d
+    → pos 1 ≤ℤ year → IsOk r ↔ IsDate z k l
     → IsSome (result_ok r) ↔ IsTrue (has_date year m d)
 found_exactly r (pos y) z k l m d same_year same_month same_day first exact =
     let here = ok_exactly r (rw (same_year, same_month, same_day) at exact) in
@@ -96,7 +104,8 @@ found_exactly r (pos y) z k l m d same_year same_month same_day first exact =
 found_exactly r (negsuc y) z k l m d same_year same_month same_day first exact = absurd (omega (arith, ints))
 
 -- with these numbers
-pub found_named : {E : Type 0} (r : Result Date E) (year z k l : ℤ) (m d : ℕ) → z ≡ year → k ≡ pos m → l ≡ pos d → IfOk r (IsYmd z k l)
+pub found_named : {E : Type 0} (r : Result Date E) (year z k l : ℤ) (m d : ℕ) → z ≡ year → k ≡ pos m → l ≡ pos d
+    → IfOk r (IsYmd z k l)
     → IfSome (result_ok r) (IsYmd year (pos m) (pos d))
 found_named (Ok date) year z k l m d same_year same_month same_day h = rw (same_year, same_month, same_day) at h
 found_named (Err e) year z k l m d same_year same_month same_day h = tt

@@ -15,7 +15,22 @@ first_day_repeats y k =
     let l = floor_quotient_is (y +ℤ k *ℤ pos 400 -ℤ pos 1) 3 in
     let m = floor_quotient_is (y +ℤ k *ℤ pos 400 -ℤ pos 1) 99 in
     let n = floor_quotient_is (y +ℤ k *ℤ pos 400 -ℤ pos 1) 399 in
-    omega (arith, ints, f.not_above, f.close, h.not_above, h.close, g.not_above, g.close, l.not_above, l.close, m.not_above, m.close, n.not_above, n.close)
+    omega (
+      arith,
+      ints,
+      f.not_above,
+      f.close,
+      h.not_above,
+      h.close,
+      g.not_above,
+      g.close,
+      l.not_above,
+      l.close,
+      m.not_above,
+      m.close,
+      n.not_above,
+      n.close,
+    )
 
 -- the year of a day k times 146097 days later
 pub year_repeats : (d k : ℤ) → year_of_day (d +ℤ k *ℤ pos 146097) ≡ year_of_day d +ℤ k *ℤ pos 400

@@ -1,18 +1,22 @@
 -- The calendar of jiff and that of the definitions are one: day numbers, dates and years agree.
-use Rattle.std.specs.Prelude.{◌&&◌, nat_lt, nat_le, ◌≡◌, ◌↔◌, ℕ, zero, suc, ◌+◌, ◌-◌, ◌≤◌, true, ℤ, pos, ◌+ℤ◌, ◌-ℤ◌, refl}
+use Rattle.std.specs.Prelude.{◌&&◌, nat_lt, nat_le, ◌≡◌, ◌↔◌, ℕ, zero, suc, ◌+◌, ◌-◌, ◌≤◌, true, ℤ, pos, ◌+ℤ◌, ◌-ℤ◌}
+use Rattle.std.specs.Prelude.{refl}
 use Rattle.std.proofs.Common.{arith, ap, sym}
 use Rattle.std.proofs.lemmas.Bool.Decides.{nat_tests}
 use Rattle.std.proofs.lemmas.Int.{ints}
 use Rattle.book_model.proofs.Floors.{floor_quotient_is}
-use Rattle.book_model.specs.calendars.Gregorian.{first_day, year_of_day, IsYearOfDay, is_date, days_in_month, days_of_months, fixed_of}
+use Rattle.book_model.specs.calendars.Gregorian.{first_day, year_of_day, IsYearOfDay, is_date, days_in_month}
+use Rattle.book_model.specs.calendars.Gregorian.{days_of_months, fixed_of}
 use Rattle.book_model.proofs.Calendars.{year_is, year_unique}
 use Rattle.jiff_core.specs.declared.civil.date.Date.{Date}
-use Rattle.jiff_core.specs.Calendar.{IsYear, IsBetween, IsDate, day_count, days_from_civil, days_of_months as jiff_days_of_months}
+use Rattle.jiff_core.specs.Calendar.{IsYear, IsBetween, IsDate, day_count, days_from_civil}
+use Rattle.jiff_core.specs.Calendar.{days_of_months as jiff_days_of_months}
 use Rattle.jiff_core.specs.Date.{epoch_day, IsYmd}
 use Rattle.jiff_core.specs.March.{march_days}
 use Rattle.jiff_core.proofs.SignedLemmas.{signed_arith}
 use Rattle.jiff_core.proofs.MarchLemmas.{day_count-early}
-use Rattle.jiff_core.proofs.CalendarLemmas.{days_from_civil-day_count, day_count-day_of_year, day_of_year_bound, day_count-next_year}
+use Rattle.jiff_core.proofs.CalendarLemmas.{days_from_civil-day_count, day_count-day_of_year, day_of_year_bound}
+use Rattle.jiff_core.proofs.CalendarLemmas.{day_count-next_year}
 use Rattle.jiff_core.proofs.DateLemmas.{civil}
 use borrow.Author.Differences.{up, down}
 
@@ -20,7 +24,11 @@ use borrow.Author.Differences.{up, down}
 first_day_counted : (y : ℤ) (n : ℕ) → y +ℤ pos 10000 ≡ pos (suc n) → first_day y +ℤ pos 3652790 ≡ pos (day_count y 1 1)
 unfolding first_day
 first_day_counted y n e =
-    let c : day_count y 1 1 ≡ march_days n + 366 = omega (arith, day_count-early y n 1 1 e (omega arith) (omega arith) (omega arith)) in
+    let c : day_count y 1 1 ≡ march_days n + 366 = omega (
+      arith,
+      day_count-early y n 1 1 e (omega arith) (omega arith)
+          (omega arith),
+    ) in
     let f = floor_quotient_is (y -ℤ pos 1) 3 in
     let h = floor_quotient_is (y -ℤ pos 1) 99 in
     let g = floor_quotient_is (y -ℤ pos 1) 399 in
@@ -43,7 +51,8 @@ fixed_agrees y m d h =
     omega (arith, signed_arith)
 
 -- the day number of jiff's date
-pub day_agrees : (date : Date) (y m d : ℕ) → IsYmd (pos y) (pos m) (pos d) date → fixed_of y m d ≡ epoch_day date +ℤ pos 719163
+pub day_agrees : (date : Date) (y m d : ℕ) → IsYmd (pos y) (pos m) (pos d) date
+    → fixed_of y m d ≡ epoch_day date +ℤ pos 719163
 day_agrees date y m d (year, month, day) =
     let same_month : date.month ≡ m = omega (arith, ints) in
     let same_day : date.day ≡ d = omega (arith, ints) in
@@ -77,13 +86,20 @@ date_is y m d e =
     let t = (tests_agree y m d (days_in_month y m)).0 e in
     let year : IsYear (pos y) = (omega (arith, ints), omega (arith, ints, t.1)) in
     let month : IsBetween (pos 1) (pos 12) (pos m) = (omega (arith, ints, t.2), omega (arith, ints, t.3)) in
-    let day : IsBetween (pos 1) (pos (days_in_month y m)) (pos d) = (omega (arith, ints, t.4), omega (arith, ints, t.5)) in
+    let day : IsBetween (pos 1) (pos (days_in_month y m)) (pos d) = (omega (arith, ints, t.4), omega (arith, ints, t.5))
+    in
     ((year, month, day), t.0)
 
 pub is_date_of : (y m d : ℕ) → IsDate (pos y) (pos m) (pos d) → 1 ≤ y → is_date y m d ≡ true
 is_date_of y m d (year, month, day) first =
-    (tests_agree y m d (days_in_month y m)).1
-    (first, omega (arith, ints, year.1), omega (arith, ints, month.0), omega (arith, ints, month.1), omega (arith, ints, day.0), omega (arith, ints, day.1))
+    (tests_agree y m d (days_in_month y m)).1 (
+      first,
+      omega (arith, ints, year.1),
+      omega (arith, ints, month.0),
+      omega (arith, ints, month.1),
+      omega (arith, ints, day.0),
+      omega (arith, ints, day.1),
+    )
 
 -- a date's year is the year of its day
 pub year_agrees : (d : Date) → year_of_day (epoch_day d +ℤ pos 719163) ≡ d.year

@@ -1,5 +1,6 @@
 -- What the program is told to do by its arguments.
-use Rattle.std.specs.Prelude.{ℕ, ◌+◌, ◌-◌, ◌*◌, ◌^◌, ◌≤◌, ◌&&◌, nat_le, if◌then◌else◌, Bool, true, false, List, [], ◌∷◌, length, codes, Option, Some, None, is_some, option_map, option_and_then}
+use Rattle.std.specs.Prelude.{ℕ, ◌+◌, ◌-◌, ◌*◌, ◌^◌, ◌≤◌, ◌&&◌, nat_le, if◌then◌else◌, Bool, true, false, List, [], ◌∷◌}
+use Rattle.std.specs.Prelude.{length, codes, Option, Some, None, is_some, option_map, option_and_then}
 use Rattle.std.specs.Str.{all_ascii_digits, bytes_eq}
 use Rattle.clap.specs.Walk.{Row, Rule, first_of, is_empty}
 use Rattle.clap.specs.Simple.{App, matches_of, new_app, new_rule, on_top, with_rule}
@@ -26,7 +27,8 @@ bare = on_top (λ s. record s { no_binary_name = true; disable_help_flag = true 
 
 -- COMMAND, which has to be there, then A, then B, and the option --jobs
 abbrev pub program : App
-program = with_rule (with_rule (with_rule (with_rule bare (placed (codes "command") true)) (placed (codes "a") false)) (placed (codes "b") false)) jobs
+program = with_rule (with_rule (with_rule (with_rule bare (placed (codes "command") true)) (placed (codes "a") false))
+    (placed (codes "b") false)) jobs
 
 -- clap finds no fault in the arguments
 abbrev pub is_accepted : List (List ℕ) → Bool
@@ -58,7 +60,8 @@ between low high (Some n) = if nat_le low n && nat_le n high then Some n else No
 abbrev pub lone_command : List ℕ → Option Command
 lone_command name =
     if bytes_eq name (codes "convert") then Some Convert
-    else (if bytes_eq name (codes "check") then Some Check else (if bytes_eq name (codes "upgrade") then Some Upgrade else None))
+    else (if bytes_eq name (codes "check") then Some Check else (if bytes_eq name (codes "upgrade") then Some Upgrade
+    else None))
 
 -- a year of which there is an almanac
 abbrev pub almanac_year : List ℕ → Option ℕ
@@ -67,7 +70,8 @@ almanac_year word = between FIRST_ALMANAC_YEAR LAST_ALMANAC_YEAR (number_word wo
 -- `almanac` or `east` of a year
 abbrev pub command_of_year : List ℕ → ℕ → Option Command
 command_of_year name year =
-    if bytes_eq name (codes "almanac") then Some (Almanac year) else (if bytes_eq name (codes "east") then Some (East year) else None)
+    if bytes_eq name (codes "almanac") then Some (Almanac year)
+    else (if bytes_eq name (codes "east") then Some (East year) else None)
 
 -- the same with a year of which there is an almanac
 abbrev pub year_command : List ℕ → List ℕ → Option Command
@@ -76,7 +80,8 @@ year_command name year = option_and_then (command_of_year name) (almanac_year ye
 -- `sample` with a count from 1 to 100,000 and a seed of 64 bits
 abbrev pub sample_command : List ℕ → List ℕ → List ℕ → Option Command
 sample_command name count seed = if bytes_eq name (codes "sample") then option_and_then
-    (λ n. option_map (λ s. Sample n s) (between 0 18446744073709551615 (number_word seed))) (between 1 100000 (number_word count)) else None
+    (λ n. option_map (λ s. Sample n s) (between 0 18446744073709551615 (number_word seed)))
+    (between 1 100000 (number_word count)) else None
 
 -- the command that COMMAND names, with A and B where they are there
 abbrev pub table : List ℕ → Option (List ℕ) → Option (List ℕ) → Option Command
@@ -97,7 +102,8 @@ told_by (Some name) (Some value) a b = if is_some (jobs_in value) then table nam
 
 -- what the first values that clap's reading found tell
 abbrev pub told : List Row → Option Command
-told rows = told_by (first_of (codes "command") rows) (first_of (codes "jobs") rows) (first_of (codes "a") rows) (first_of (codes "b") rows)
+told rows = told_by (first_of (codes "command") rows) (first_of (codes "jobs") rows) (first_of (codes "a") rows)
+    (first_of (codes "b") rows)
 
 -- the threads that the value of --jobs asks for
 abbrev pub jobs_told : Option (List ℕ) → Option ℕ

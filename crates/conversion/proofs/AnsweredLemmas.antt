@@ -8,11 +8,18 @@ use Rattle.byte_streams.specs.Stream.{AppendsPrefix}
 use Rattle.conversion.specs.Answering.{Answered, AnswerCutShort}
 
 -- a line, an outcome that is right for it, and its text
-pub answered : (text_of : LineOutcome → List ℕ) (old new : Option (List ℕ)) (line : List ℕ) (o : LineOutcome) (is : Bool) → IsRightFor WRITTEN line o
+pub answered : (text_of : LineOutcome → List ℕ) (old new : Option (List ℕ)) (line : List ℕ) (o : LineOutcome)
+    (is : Bool) → IsRightFor WRITTEN line o
     → Appends old new (text_of o) → is ≡ is_result o → Answered text_of old new line is
-answered text_of old new line o is right written result = record { outcome = o; right = right; written = written; result = result }
+answered text_of old new line o is right written result = record {
+  outcome = o;
+  right = right;
+  written = written;
+  result = result;
+}
 
 -- a line, an outcome that is right for it, and a prefix of its text
-pub answer_cut : (text_of : LineOutcome → List ℕ) (old new : Option (List ℕ)) (line : List ℕ) (o : LineOutcome) → IsRightFor WRITTEN line o
+pub answer_cut : (text_of : LineOutcome → List ℕ) (old new : Option (List ℕ)) (line : List ℕ) (o : LineOutcome)
+    → IsRightFor WRITTEN line o
     → AppendsPrefix old new (text_of o) → AnswerCutShort text_of old new line
 answer_cut text_of old new line o right prefix = record { outcome = o; right = right; prefix = prefix }

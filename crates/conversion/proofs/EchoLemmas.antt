@@ -17,7 +17,8 @@ use Rattle.conversion.proofs.RightLemmas.{three_words_found}
 use Rattle.conversion.proofs.RowLemmas.{words_echoed}
 
 -- the words of an echo are those of the line that they are with single spaces
-pub echo_words : (from date to : List ℕ) → IsWord from → IsWord date → IsWord to → words_of (three_words_text from date to) ≡ from ∷ date ∷ to ∷ []
+pub echo_words : (from date to : List ℕ) → IsWord from → IsWord date → IsWord to
+    → words_of (three_words_text from date to) ≡ from ∷ date ∷ to ∷ []
 echo_words from date to f d t = rw (text_spaced from date to) (words_read from (date ∷ to ∷ []) f (d, (t, tt)))
 
 -- and they are echoed as that line's
@@ -45,7 +46,8 @@ stand_length [] (o ∷ os) h = absurd h
 stand_length (l ∷ lines) [] h = absurd h
 stand_length (l ∷ lines) (o ∷ os) h = ap suc (stand_length lines os h.1)
 
-stands_place : (lines : List (List ℕ)) (os : List Outcome) (i : ℕ) (d : List ℕ) (e : Outcome) → i < length lines → i < length os
+stands_place : (lines : List (List ℕ)) (os : List Outcome) (i : ℕ) (d : List ℕ) (e : Outcome) → i < length lines
+    → i < length os
     → AllZip MayStand lines (map line_outcome os) → MayStand (get_or lines i d) (line_outcome (get_or os i e))
 stands_place [] os i d e h k all = absurd (omega arith)
 stands_place (l ∷ lines) [] i d e h k all = absurd (omega arith)
@@ -53,11 +55,13 @@ stands_place (l ∷ lines) (o ∷ os) zero d e h k all = all.0
 stands_place (l ∷ lines) (o ∷ os) (suc i) d e h k all = stands_place lines os i d e (omega arith) (omega arith) all.1
 
 -- each may stand at its place
-pub stands_at : (lines : List (List ℕ)) (os : List Outcome) (i : ℕ) (d : List ℕ) (o : Outcome) → i < length lines → i < length os → o ≡ get_or os i o
+pub stands_at : (lines : List (List ℕ)) (os : List Outcome) (i : ℕ) (d : List ℕ) (o : Outcome) → i < length lines
+    → i < length os → o ≡ get_or os i o
     → AllZip MayStand lines (map line_outcome os) → MayStand (get_or lines i d) (line_outcome o)
 stands_at lines os i d o h k e all = let stands = stands_place lines os i d o h k all in rw (← e) at stands
 
 -- a result stands for a line of three words
-pub three_words_stand : (l : List ℕ) (o : LineOutcome) (x : Resolved) (facts : List (Fact × ℤ)) → o ≡ resolved x facts → MayStand l o
+pub three_words_stand : (l : List ℕ) (o : LineOutcome) (x : Resolved) (facts : List (Fact × ℤ)) → o ≡ resolved x facts
+    → MayStand l o
     → length (words_of l) ≡ 3
 three_words_stand l o x facts e h = rw e at h

@@ -15,7 +15,8 @@ module _ {X : Type 0} (p : X → Bool) where
       step false u h rest = omega (arith, rest h)
 
 -- a number behind the place of what is new
-pub new_number : {X : Type 0} (p : X → Bool) (xs : List X) (is_new : Bool) (place number : ℕ) → is_new ≡ not (list_any p xs)
+pub new_number : {X : Type 0} (p : X → Bool) (xs : List X) (is_new : Bool) (place number : ℕ)
+    → is_new ≡ not (list_any p xs)
     → place ≡ position_or_len p xs → number ≡ place + 1 → IsTrue is_new → number ≡ length xs + 1
 new_number p xs is_new place number new placed next holds = by (list_any p xs) refl
   where

@@ -18,8 +18,10 @@ use Rattle.conversion.specs.declared.text.WriteStop.TheVariants.{Fault}
 use Rattle.conversion.proofs.RightLemmas.{all_results}
 
 -- lines, outcomes that are right for them, and their text
-pub printed : (old new : Option (List ℕ)) (lines : List (List ℕ)) (os : List Outcome) (all : Bool) → AreRight WRITTEN lines (map line_outcome os)
-    → Appends old new (text lines (map line_outcome os)) → all ≡ list_all (λ o. is_result (line_outcome o)) os → Printed old new lines all
+pub printed : (old new : Option (List ℕ)) (lines : List (List ℕ)) (os : List Outcome) (all : Bool)
+    → AreRight WRITTEN lines (map line_outcome os)
+    → Appends old new (text lines (map line_outcome os)) → all ≡ list_all (λ o. is_result (line_outcome o)) os
+    → Printed old new lines all
 printed old new lines os all right written results = record {
   outcomes = map line_outcome os;
   right = right;
@@ -30,7 +32,8 @@ printed old new lines os all right written results = record {
 -- lines, outcomes that are right for them, and their counts
 pub counted : (old new : Option (List ℕ)) (lines : List (List ℕ)) (count seed : ℕ) (os : List Outcome) (all : Bool)
     → AreRight WRITTEN lines (map line_outcome os)
-    → Appends old new (sample_text count seed (map line_outcome os)) → all ≡ list_all (λ o. is_result (line_outcome o)) os
+    → Appends old new (sample_text count seed (map line_outcome os))
+    → all ≡ list_all (λ o. is_result (line_outcome o)) os
     → Counted old new lines count seed all
 counted old new lines count seed os all right written results = record {
   outcomes = map line_outcome os;
@@ -40,13 +43,16 @@ counted old new lines count seed os all right written results = record {
 }
 
 -- lines, outcomes that are right for them, and a prefix of their text
-pub cut_short : (old new : Option (List ℕ)) (lines : List (List ℕ)) (os : List Outcome) → AreRight WRITTEN lines (map line_outcome os)
+pub cut_short : (old new : Option (List ℕ)) (lines : List (List ℕ)) (os : List Outcome)
+    → AreRight WRITTEN lines (map line_outcome os)
     → AppendsPrefix old new (text lines (map line_outcome os)) → CutShort old new lines
 cut_short old new lines os right prefix = record { outcomes = map line_outcome os; right = right; prefix = prefix }
 
 -- a call that failed has left a cut, whether a write failed or memory ran out
-pub performs_cut : {S T : Type 0} {written : S → Option (List ℕ)} {faults : S → ℕ} {old new : S} {finished : T → Type 0} {cut : Type 0}
-    {result : Result T WriteStop} (stop : WriteStop) → result ≡ Err stop → cut → (stop ≡ Fault → Rose (faults old) (faults new)) → faults old ≤ faults new
+pub performs_cut : {S T : Type 0} {written : S → Option (List ℕ)} {faults : S → ℕ} {old new : S} {finished : T → Type 0}
+    {cut : Type 0}
+    {result : Result T WriteStop} (stop : WriteStop) → result ≡ Err stop → cut
+    → (stop ≡ Fault → Rose (faults old) (faults new)) → faults old ≤ faults new
     → Performs written faults old new finished cut result
 performs_cut {result = Ok x} stop fails left rose later = absurd (cc)
 performs_cut {result = Err e} stop fails left rose later = record {

@@ -15,7 +15,8 @@ use Rattle.jobs_core.specs.declared.outcome.Outcome.{Outcome}
 use Rattle.jobs_core.specs.Outcomes.{line_outcome, AreRightForRows}
 
 -- there are as many outcomes as lines
-pub right_length : (lines : List (List ℕ)) (os : List LineOutcome) → AreRight WRITTEN lines os → length lines ≡ length os
+pub right_length : (lines : List (List ℕ)) (os : List LineOutcome) → AreRight WRITTEN lines os
+    → length lines ≡ length os
 right_length [] [] all = refl
 right_length [] (o ∷ os) all = absurd all
 right_length (line ∷ lines) [] all = absurd all
@@ -39,7 +40,8 @@ three_asked (a ∷ b ∷ c ∷ []) r h = refl
 three_asked (a ∷ b ∷ c ∷ d ∷ ws) r h = cc
 
 -- only three words ask something, where the line is readable
-three_where : (t : Bool) (ws : List (List ℕ)) (r : Request) → (if t then asked_by WRITTEN ws else Err Syntax) ≡ Ok r → length ws ≡ 3
+three_where : (t : Bool) (ws : List (List ℕ)) (r : Request) → (if t then asked_by WRITTEN ws else Err Syntax) ≡ Ok r
+    → length ws ≡ 3
 three_where true ws r h = three_asked ws r h
 three_where false ws r h = cc
 
@@ -49,15 +51,18 @@ unfolding request_of
 three_words_asked line r h = three_where _ (words_of line) r h
 
 -- a line whose outcome is a result has three words
-pub three_words_found : (line : List ℕ) (o : LineOutcome) (x : Resolved) (facts : List (Fact × ℤ)) → o ≡ resolved x facts
+pub three_words_found : (line : List ℕ) (o : LineOutcome) (x : Resolved) (facts : List (Fact × ℤ))
+    → o ≡ resolved x facts
     → IsRightFor WRITTEN line o → length (words_of line) ≡ 3
 three_words_found line o x facts e h = by (request_of WRITTEN line) refl (rw e at h)
   where
-    by : (row : Result Request Rule) → request_of WRITTEN line ≡ row → IsRightForRow WRITTEN row (resolved x facts) → length (words_of line) ≡ 3
+    by : (row : Result Request Rule) → request_of WRITTEN line ≡ row → IsRightForRow WRITTEN row (resolved x facts)
+        → length (words_of line) ≡ 3
     by (Err rule) asked right = absurd (cc)
     by (Ok r) asked right = three_words_asked line r asked
 
 -- all are results, by either list of outcomes
-pub all_results : (os : List Outcome) → list_all (λ o. is_result (line_outcome o)) os ≡ list_all is_result (map line_outcome os)
+pub all_results : (os : List Outcome) → list_all (λ o. is_result (line_outcome o)) os ≡ list_all is_result
+    (map line_outcome os)
 all_results [] = refl
 all_results (o ∷ os) = ap (λ t. is_result (line_outcome o) && t) (all_results os)

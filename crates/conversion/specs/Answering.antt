@@ -8,11 +8,13 @@ use Rattle.book_model.specs.lines.Requests.{rule_number}
 use Rattle.book_model.specs.lines.Text.{block_text, result_text}
 use Rattle.byte_streams.specs.Stream.{AppendsPrefix}
 
--- what stands for a line where no other line stands before it: its facts, numbered from 1, and then the line, of the number 1
+-- what stands for a line where no other line stands before it: its facts, numbered from 1, and then the line, of the
+-- number 1
 abbrev pub answer_text : List ℕ → LineOutcome → List ℕ
 answer_text line o = block_text [] 1 line o
 
--- the outcome of a line in a few words: its result, or `refused` with the rule and the day or date that says why, `undecided` or `void`
+-- the outcome of a line in a few words: its result, or `refused` with the rule and the day or date that says why,
+-- `undecided` or `void`
 abbrev pub brief_text : LineOutcome → List ℕ
 brief_text (refused rule) = codes "refused " ++ decimal (rule_number rule)
 brief_text (resolved x facts) = result_text x
@@ -20,7 +22,8 @@ brief_text (undecided f u) = codes "undecided"
 brief_text (void f s) = codes "void"
 
 -- a text of an outcome that is right for the line stands behind what the sink held
-pub record Answered (text_of : LineOutcome → List ℕ) (old new : Option (List ℕ)) (line : List ℕ) (has_result : Bool) : Type 0 where
+pub record Answered (text_of : LineOutcome → List ℕ) (old new : Option (List ℕ)) (line : List ℕ)
+    (has_result : Bool) : Type 0 where
   pub outcome : LineOutcome
   pub right : IsRightFor WRITTEN line outcome
   pub written : Appends old new (text_of outcome)

@@ -5,7 +5,8 @@ use Rattle.std.specs.declared.option.Option.{Option}
 use Rattle.std.specs.Io.KnownBytes.{Appends}
 use Rattle.book_model.specs.declared.fact.Fact.{Fact}
 use Rattle.book_model.specs.declared.version.TheConstants.{WRITTEN}
-use Rattle.book_model.specs.lines.Outcomes.{LineOutcome, refused, resolved, undecided, void, AreRight, is_shown, is_result}
+use Rattle.book_model.specs.lines.Outcomes.{LineOutcome, refused, resolved, undecided, void, AreRight, is_shown}
+use Rattle.book_model.specs.lines.Outcomes.{is_result}
 use Rattle.book_model.specs.lines.Text.{seen_after}
 use Rattle.byte_streams.specs.Stream.{AppendsPrefix}
 use Rattle.cert_text.specs.Laws.{is_undecided}
@@ -45,21 +46,24 @@ facts_in os = length (seen_after_all [] os)
 -- sample COUNT SEED decided A undecided B void C refused D facts F
 unfoldable pub counts_text : (count seed decided undecided void refused facts : ℕ) → List ℕ
 counts_text count seed a b c d facts =
-    concat (codes "sample " ∷ decimal count ∷ codes " " ∷ decimal seed ∷ codes " decided " ∷ decimal a ∷ codes " undecided " ∷ decimal b ∷ codes " void " ∷
+    concat (codes "sample " ∷ decimal count ∷ codes " " ∷ decimal seed ∷ codes " decided " ∷ decimal a
+    ∷ codes " undecided " ∷ decimal b ∷ codes " void " ∷
     decimal c
     ∷ codes " refused " ∷ decimal d ∷ codes " facts " ∷ decimal facts ∷ codes "\n" ∷ [])
 
 -- the line of a sample whose lines have these outcomes
 abbrev pub sample_text : (count seed : ℕ) → List LineOutcome → List ℕ
-sample_text count seed os = counts_text count seed (length (filter is_result os)) (length (filter is_undecided os)) (length (filter is_void os))
+sample_text count seed os = counts_text count seed (length (filter is_result os)) (length (filter is_undecided os))
+    (length (filter is_void os))
     (length (filter is_refused os)) (facts_in os)
 
 -- the counts of lines stand behind what the sink held, each outcome right for its line
-pub record Counted (old new : Option (List ℕ)) (lines : List (List ℕ)) (count seed : ℕ) (all_results : Bool) : Type 0 where
-  pub outcomes : List LineOutcome
-  pub right : AreRight WRITTEN lines outcomes
-  pub written : Appends old new (sample_text count seed outcomes)
-  pub results : all_results ≡ list_all is_result outcomes
+pub record Counted (old new : Option (List ℕ)) (lines : List (List ℕ)) (count seed : ℕ) (all_results : Bool) : Type 0
+  where
+    pub outcomes : List LineOutcome
+    pub right : AreRight WRITTEN lines outcomes
+    pub written : Appends old new (sample_text count seed outcomes)
+    pub results : all_results ≡ list_all is_result outcomes
 
 -- a prefix of such a line stands there
 pub record CountCutShort (old new : Option (List ℕ)) (lines : List (List ℕ)) (count seed : ℕ) : Type 0 where

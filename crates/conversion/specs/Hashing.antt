@@ -16,4 +16,5 @@ rank_of rows row = count_ones (bit_and rows (2 ^ row - 1))
 
 -- the hash of a day of a row: the day's group among those of the row, and its place among the days of that group
 unfoldable pub day_hash : (rank bits day : ℕ) → ℕ
-day_hash rank bits day = bit_or (bit_or (rank * 2 ^ bits % 2 ^ 64) (day % 2 ^ bits)) ((day / 2 ^ bits % 16 + 1) * ABOVE_GROUPS)
+day_hash rank bits day = bit_or (bit_or (rank * 2 ^ bits % 2 ^ 64) (day % 2 ^ bits))
+    ((day / 2 ^ bits % 16 + 1) * ABOVE_GROUPS)

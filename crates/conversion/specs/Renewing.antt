@@ -17,8 +17,8 @@ use Rattle.conversion.specs.Echoes.{echo_line, words_in}
 abbrev pub rule_numbered : ℕ → Rule
 rule_numbered n = if n == 1 then Syntax else (if n == 2 then Calendar else (if n == 3 then Field else Range))
 
--- what an upgrade makes of a line: an outcome that is right for its words by the version that is written; a line without words
--- stays as it is
+-- what an upgrade makes of a line: an outcome that is right for its words by the version that is written; a line
+-- without words stays as it is
 abbrev pub Renews : CertLine → LineOutcome → Type 0
 Renews (line.Shown echo result facts) o = IsRightFor WRITTEN (echo_line echo) o
 Renews (line.TooFar echo day facts) o = IsRightFor WRITTEN (echo_line echo) o

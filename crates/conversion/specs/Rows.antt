@@ -38,4 +38,5 @@ words_echo number from date to = echo_prefix number from ++ (date ++ echo_end to
 
 -- the same of a request
 abbrev pub request_echo : ℕ → Request → List ℕ
-request_echo number r = words_echo number (text_of_from r.from) (date_text (calendar_of r.from) r.date) (text_of_to r.to)
+request_echo number r = words_echo number (text_of_from r.from) (date_text (calendar_of r.from) r.date)
+    (text_of_to r.to)

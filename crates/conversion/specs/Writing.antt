@@ -14,9 +14,11 @@ WritesAll written old new bytes result = OnOk result (Appends (written old) (wri
 abbrev pub WritesPrefix : {S T E : Type 0} → (S → Option (List ℕ)) → (old new : S) → List ℕ → Result T E → Type 0
 WritesPrefix written old new bytes result = OnErr result (AppendsPrefix (written old) (written new) bytes)
 
--- What a call that computes and writes has done at its end. At Ok its work is finished; at a fault of writing there is what a cut
--- of it leaves, and where memory ran out that, or nothing was written. A fault has its cause, and faults are counted on.
-pub record Performs {S T : Type 0} (written : S → Option (List ℕ)) (faults : S → ℕ) (old new : S) (finished : T → Type 0) (cut : Type 0)
+-- What a call that computes and writes has done at its end. At Ok its work is finished; at a fault of writing there is
+-- what a cut of it leaves, and where memory ran out that, or nothing was written. A fault has its cause, and faults are
+-- counted on.
+pub record Performs {S T : Type 0} (written : S → Option (List ℕ)) (faults : S → ℕ) (old new : S) (finished : T
+    → Type 0) (cut : Type 0)
     (result : Result T WriteStop) : Type 0 where
   pub ok : IfOk result finished
   pub fault : IsErrOf result Fault → cut

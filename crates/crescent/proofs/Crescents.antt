@@ -2,7 +2,10 @@
 use Rattle.std.specs.Prelude.{ℕ, ◌+◌, ◌*◌, Bool, ℤ, pos, ◌-ℤ◌, int_le}
 use Rattle.std.proofs.Common.{arith}
 use Rattle.book_model.specs.declared.horizon.Location.{Location}
-use Rattle.book_model.specs.sky.Crescent.{evening_of, and_also, is_past_new_of, is_before_quarter_of, is_lit_of, is_within_quarter_of, is_high_of, is_bright_of, is_crescent_of, meets_of, meets_with_of, obliquity_at_of, meets_at_of, visible_of, visibility_start_of, visibility_after_of, phasis_of}
+use Rattle.book_model.specs.sky.Crescent.{evening_of, and_also, is_past_new_of, is_before_quarter_of, is_lit_of}
+use Rattle.book_model.specs.sky.Crescent.{is_within_quarter_of, is_high_of, is_bright_of, is_crescent_of, meets_of}
+use Rattle.book_model.specs.sky.Crescent.{meets_with_of, obliquity_at_of, meets_at_of, visible_of, visibility_start_of}
+use Rattle.book_model.specs.sky.Crescent.{visibility_after_of, phasis_of}
 use Rattle.book_model.specs.sky.Nisan.{sought_start_of, visibility_by_of, visibility_from_of}
 use Rattle.book_model.specs.numbers.Expressions.{Expression}
 use Rattle.book_model.specs.sky.Horizon.{dusk_of, depression_of}
@@ -39,7 +42,8 @@ bright_few a h = also_few 1 2 _ _ (lit_few a) (also_few 1 1 _ _ (within_few a) (
 
 meets_few : (p : Location) (f o l b t : Expression) → AtMost 5 (meets_of p f o l b t)
 unfolding meets_of is_crescent_of is_past_new_of is_before_quarter_of
-meets_few p f o l b t = also_few 1 4 _ _ (compare_at_most (λ t. answer_at_most)) (also_few 1 3 _ _ (compare_at_most (λ t. answer_at_most)) (bright_few _ _))
+meets_few p f o l b t = also_few 1 4 _ _ (compare_at_most (λ t. answer_at_most))
+    (also_few 1 3 _ _ (compare_at_most (λ t. answer_at_most)) (bright_few _ _))
 
 latitude_few : (x : Expression) → AtMost 1 (latitude_of x)
 unfolding latitude_of
@@ -56,7 +60,8 @@ meets_with_few p x f o = at_most_bind 2 6 (moon_few x) (λ l. at_most_bind 1 5 (
 
 meets_at_few : (p : Location) (x : Expression) → AtMost 19 (meets_at_of p x)
 unfolding meets_at_of obliquity_at_of
-meets_at_few p x = at_most_bind 10 9 (phase_few x) (λ f. at_most_bind 1 8 (at_most_bind 1 0 (centuries_few x) obliquity_few) (λ o. meets_with_few p x f o))
+meets_at_few p x = at_most_bind 10 9 (phase_few x)
+    (λ f. at_most_bind 1 8 (at_most_bind 1 0 (centuries_few x) obliquity_few) (λ o. meets_with_few p x f o))
 
 -- an evening makes 151 tests at most
 pub visible_few : (p : Location) (d : ℤ) → AtMost 151 (visible_of p d)
@@ -65,7 +70,8 @@ visible_few p d = at_most_bind 132 19 (evening_few p d) (meets_at_few p)
 
 start_few : (p : Location) (d m : ℤ) → AtMost 151 (visibility_start_of p d m)
 unfolding visibility_start_of
-start_few p d m = few_if 151 (int_le (d -ℤ m) (pos 3)) _ _ (at_most_bind 151 0 (visible_few p d) (λ seen. answer_at_most)) answer_at_most
+start_few p d m = few_if 151 (int_le (d -ℤ m) (pos 3)) _ _
+    (at_most_bind 151 0 (visible_few p d) (λ seen. answer_at_most)) answer_at_most
 
 pub phasis_few : (p : Location) (d : ℤ) → AtMost 99999 (phasis_of p d)
 unfolding phasis_of visibility_after_of first_day_from
@@ -76,7 +82,8 @@ phasis_few p d =
 
 sought_few : (p : Location) (s m : ℤ) → AtMost 151 (sought_start_of p s m)
 unfolding sought_start_of
-sought_few p s m = few_if 151 (int_le (pos 4) (s -ℤ m)) _ _ answer_at_most (at_most_bind 151 0 (visible_few p (s -ℤ pos 1)) (λ seen. answer_at_most))
+sought_few p s m = few_if 151 (int_le (pos 4) (s -ℤ m)) _ _ answer_at_most
+    (at_most_bind 151 0 (visible_few p (s -ℤ pos 1)) (λ seen. answer_at_most))
 
 -- the first visibility from a day on makes 7,942 tests at most
 pub visibility_from_few : (p : Location) (s : ℤ) → AtMost (845 + (151 + 46 * 151)) (visibility_from_of p s)

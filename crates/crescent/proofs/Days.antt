@@ -26,5 +26,6 @@ dated_in w f d v e =
     let b = phase_in_table w (integer d) s.part s.first in
     (whole_order TABLE_START d b.0, whole_order d TABLE_END b.1)
 
-pub day_dated : (f d v : ℤ) (b a : ℕ) → ((w : World) → 40 ≤ w.depth → Leads w Exact (phase_day_of f d) b a (Ok v)) → IsTableDay d
+pub day_dated : (f d v : ℤ) (b a : ℕ) → ((w : World) → 40 ≤ w.depth → Leads w Exact (phase_day_of f d) b a (Ok v))
+    → IsTableDay d
 day_dated f d v b a h = dated_in (at_depth 40) f d v (leads_value (h (at_depth 40) (omega arith)))

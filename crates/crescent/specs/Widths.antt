@@ -1,4 +1,5 @@
--- How wide what the criterion of the crescent is taken of is at the scale 2^-56, at a moment that is at most 9/8 of 2^-32 days wide.
+-- How wide what the criterion of the crescent is taken of is at the scale 2^-56, at a moment that is at most 9/8 of
+-- 2^-32 days wide.
 use Rattle.std.specs.Prelude.{◌*◌, ◌^◌}
 use Rattle.book_model.specs.Interval.{Interval}
 use Rattle.book_model.specs.programs.Widths.{IsAbout, IsMoment, IsDated}

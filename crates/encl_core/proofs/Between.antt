@@ -8,12 +8,15 @@ use Rattle.encl_core.specs.declared.span.Span.{Span}
 use Rattle.encl_core.specs.Kept.{shown_span}
 
 pub span_within : (s t : Span) → t.lo ≤ℤ s.lo → s.hi ≤ℤ t.hi → shown_span s ⊆ shown_span t
-span_within s t l u = record { endpoints = (record { cross = omega (arith, ints, l) }, record { cross = omega (arith, ints, u) }) }
+span_within s t l u =
+    record { endpoints = (record { cross = omega (arith, ints, l) }, record { cross = omega (arith, ints, u) }) }
 
-pub then_within : (s t : Span) (j : Interval) (b : Bool) → (IsTrue b → shown_span s ⊆ shown_span t) → shown_span t ⊆ j → IsTrue b → shown_span s ⊆ j
+pub then_within : (s t : Span) (j : Interval) (b : Bool) → (IsTrue b → shown_span s ⊆ shown_span t) → shown_span t ⊆ j
+    → IsTrue b → shown_span s ⊆ j
 then_within s t j b h k e = within_trans (h e) k
 
-pub first_within : (s : Span) (i j : Interval) (b : Bool) → i ⊆ shown_span s → (IsTrue b → shown_span s ⊆ j) → IsTrue b → i ⊆ j
+pub first_within : (s : Span) (i j : Interval) (b : Bool) → i ⊆ shown_span s → (IsTrue b → shown_span s ⊆ j) → IsTrue b
+    → i ⊆ j
 first_within s i j b h k e = within_trans h (k e)
 
 pub within_all : (i j : Interval) → j ≡ everything → i ⊆ j

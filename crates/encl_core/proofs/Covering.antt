@@ -1,6 +1,7 @@
--- Bounds by size and width alone: sums, and products with any fraction of at most some size. So what is computed at a symbolic
--- fraction, as a polynomial in Horner's form, has a bound that is computed of its coefficients.
-use Rattle.std.specs.Prelude.{◌≡◌, ℕ, suc, ◌+◌, ◌*◌, ◌/◌, ◌^◌, ◌≤◌, ◌<◌, true, nat_lt, unsigned_abs, ℤ, pos, negsuc, neg_ℤ, ◌+ℤ◌, ◌*ℤ◌, ◌≤ℤ◌, ◌<ℤ◌}
+-- Bounds by size and width alone: sums, and products with any fraction of at most some size. So what is computed at a
+-- symbolic fraction, as a polynomial in Horner's form, has a bound that is computed of its coefficients.
+use Rattle.std.specs.Prelude.{◌≡◌, ℕ, suc, ◌+◌, ◌*◌, ◌/◌, ◌^◌, ◌≤◌, ◌<◌, true, nat_lt, unsigned_abs, ℤ, pos, negsuc}
+use Rattle.std.specs.Prelude.{neg_ℤ, ◌+ℤ◌, ◌*ℤ◌, ◌≤ℤ◌, ◌<ℤ◌}
 use Rattle.std.proofs.Common.{arith}
 use Rattle.std.specs.Int.{int_min, int_max}
 use Rattle.std.proofs.lemmas.Int.{ints, clamps, by_lt_z, unsigned_abs-mul}
@@ -8,7 +9,8 @@ use Rattle.std.proofs.lemmas.Bool.{lt-ltb}
 use Rattle.std.proofs.Math.Nat.{mul-le-mul_right, mul-le-mul_left}
 use Rattle.book_model.specs.Fraction.{Fraction, floor_quotient}
 use Rattle.book_model.proofs.Floors.{floor_quotient_is}
-use Rattle.book_model.specs.numbers.Bounds.{Bound, bounded, IsNarrow, limits_at, ceil_div, ceil_quotient, range_size, scaled_bound, sum_bound}
+use Rattle.book_model.specs.numbers.Bounds.{Bound, bounded, IsNarrow, limits_at, ceil_div, ceil_quotient, range_size}
+use Rattle.book_model.specs.numbers.Bounds.{scaled_bound, sum_bound}
 use Rattle.book_model.specs.Interval.{Interval}
 use Rattle.book_model.specs.programs.Widths.{IsAbout}
 use Rattle.encl_core.specs.Sizes.{HasSize}
@@ -16,17 +18,20 @@ use Rattle.encl_core.proofs.Measuring.{looser, remeasured}
 
 -- a bound of numbers of at most this size, in 2^-32, and this width, in 2^-64
 pub data IsCovered : Bound → ℕ → ℕ → Type 0 where
-  covered : {a b : ℤ} {s m S u : ℕ} → neg_ℤ (pos S) ≤ℤ a → a ≤ℤ pos S → neg_ℤ (pos S) ≤ℤ b → b ≤ℤ pos S → m ≤ u → IsCovered (bounded a b s m) S u
+  covered : {a b : ℤ} {s m S u : ℕ} → neg_ℤ (pos S) ≤ℤ a → a ≤ℤ pos S → neg_ℤ (pos S) ≤ℤ b → b ≤ℤ pos S → m ≤ u
+      → IsCovered (bounded a b s m) S u
 
 -- a greater width
 pub wider_covered : (x : Bound) (S u v : ℕ) → u ≤ v → IsCovered x S u → IsCovered x S v
-wider_covered x S u v l (covered {a = a} {b = b} {s = s} {m = m} p p2 q q2 r) = let h : m ≤ v = omega arith in covered p p2 q q2 h
+wider_covered x S u v l (covered {a = a} {b = b} {s = s} {m = m} p p2 q q2 r) = let h : m ≤ v = omega arith in
+    covered p p2 q q2 h
 
 -- a quotient of what is at least -G times the divisor, or at most G times
 nat_floor : (n d : ℕ) → (n / suc d) * suc d ≤ n
 nat_floor n d = omega arith
 
-no_less : (q : ℤ) (G d : ℕ) (z : ℤ) → q <ℤ neg_ℤ (pos G) → z <ℤ (q *ℤ pos (suc d) +ℤ pos (suc d)) → neg_ℤ (pos (G * suc d)) ≤ℤ z → ⊥
+no_less : (q : ℤ) (G d : ℕ) (z : ℤ) → q <ℤ neg_ℤ (pos G) → z <ℤ (q *ℤ pos (suc d) +ℤ pos (suc d))
+    → neg_ℤ (pos (G * suc d)) ≤ℤ z → ⊥
 no_less (pos n) G d z l c h = omega (arith, ints)
 no_less (negsuc n) G d z l c h =
     let g : G ≤ n = omega (arith, ints, l) in
@@ -55,7 +60,8 @@ width_least m N F d h =
     let p : m * N ≤ m * (F * suc d) = mul-le-mul_left m h in
     let e : m * (F * suc d) ≡ m * F * suc d = grind arith in
     let f = nat_floor (m * N + d) d in
-    by_lt_z (pos (m * F)) (pos (ceil_div (m * N) d)) (λ l. absurd (no_more (ceil_div (m * N) d) m N F d (omega (arith, ints, l)) f (omega (arith, p, e))))
+    by_lt_z (pos (m * F)) (pos (ceil_div (m * N) d))
+    (λ l. absurd (no_more (ceil_div (m * N) d) m N F d (omega (arith, ints, l)) f (omega (arith, p, e))))
     (λ k. omega (arith, ints, k))
 
 too_great : (q : ℤ) (G d : ℕ) (z : ℤ) → pos G <ℤ q → (q *ℤ pos (suc d)) ≤ℤ z → z ≤ℤ pos (G * suc d) → ⊥
@@ -76,13 +82,16 @@ ceil_least z d G h =
     omega (arith, ints, f)
 
 -- the size of two numbers
-pub size_least : (a b : ℤ) (S : ℕ) → neg_ℤ (pos S) ≤ℤ a → a ≤ℤ pos S → neg_ℤ (pos S) ≤ℤ b → b ≤ℤ pos S → range_size a b ≤ S
+pub size_least : (a b : ℤ) (S : ℕ) → neg_ℤ (pos S) ≤ℤ a → a ≤ℤ pos S → neg_ℤ (pos S) ≤ℤ b → b ≤ℤ pos S
+    → range_size a b ≤ S
 size_least a b S h i k l = omega (arith, ints)
 
 -- ---- sums
-pub sum_covered : (x y : Bound) (S u Z v : ℕ) → S + Z < 2 ^ 100 → IsCovered x S u → IsCovered y Z v → IsCovered (sum_bound (limits_at 56) x y) (S + Z) (u + v)
+pub sum_covered : (x y : Bound) (S u Z v : ℕ) → S + Z < 2 ^ 100 → IsCovered x S u → IsCovered y Z v
+    → IsCovered (sum_bound (limits_at 56) x y) (S + Z) (u + v)
 unfolding sum_bound
-sum_covered x y S u Z v b (covered {a = a} {b = c} {s = s} {m = m} p p2 q q2 r) (covered {a = d} {b = e} {s = t} {m = n} p' p2' q' q2' r') =
+sum_covered x y S u Z v b (covered {a = a} {b = c} {s = s} {m = m} p p2 q q2 r)
+    (covered {a = d} {b = e} {s = t} {m = n} p' p2' q' q2' r') =
     let h1 : neg_ℤ (pos (S + Z)) ≤ℤ (a +ℤ d) = omega (arith, ints) in
     let h2 : (a +ℤ d) ≤ℤ pos (S + Z) = omega (arith, ints) in
     let h3 : neg_ℤ (pos (S + Z)) ≤ℤ (c +ℤ e) = omega (arith, ints) in
@@ -97,10 +106,12 @@ record IsAround (z : ℤ) (d G : ℕ) : Type 0 where
   low : neg_ℤ (pos (G * suc d)) ≤ℤ z
   high : z ≤ℤ pos (G * suc d)
 
-around_product : (a n : ℤ) (S F d : ℕ) → neg_ℤ (pos S) ≤ℤ a → a ≤ℤ pos S → unsigned_abs n ≤ F * suc d → IsAround (a *ℤ n) d (S * F)
+around_product : (a n : ℤ) (S F d : ℕ) → neg_ℤ (pos S) ≤ℤ a → a ≤ℤ pos S → unsigned_abs n ≤ F * suc d
+    → IsAround (a *ℤ n) d (S * F)
 around_product a n S F d h k i =
     let m = unsigned_abs-mul a n in
-    let p : unsigned_abs a * unsigned_abs n ≤ S * unsigned_abs n = mul-le-mul_right (unsigned_abs n) (omega (arith, ints)) in
+    let p : unsigned_abs a * unsigned_abs n ≤ S * unsigned_abs n = mul-le-mul_right (unsigned_abs n)
+    (omega (arith, ints)) in
     let q : S * unsigned_abs n ≤ S * (F * suc d) = mul-le-mul_left S i in
     let e : S * (F * suc d) ≡ S * F * suc d = grind arith in
     let z : unsigned_abs (a *ℤ n) ≤ S * F * suc d = omega (arith, m, p, q, e) in
@@ -111,7 +122,8 @@ small_product A N S h k i =
     let p : A * N ≤ A * 2 ^ 40 = mul-le-mul_left A i in
     omega (arith, p, h, k)
 
-pub scaled_covered : (x : Bound) (f : Fraction) (S u F : ℕ) → S < 2 ^ 62 → S * F < 2 ^ 100 → HasSize F f → IsCovered x S u
+pub scaled_covered : (x : Bound) (f : Fraction) (S u F : ℕ) → S < 2 ^ 62 → S * F < 2 ^ 100 → HasSize F f
+    → IsCovered x S u
     → IsCovered (scaled_bound (limits_at 56) f x) (S * F) (u * F + 2 ^ 9)
 unfolding scaled_bound
 scaled_covered x f S u F c e i (covered {a = a} {b = b} {s = s} {m = m} p p2 q q2 r) =
@@ -133,7 +145,8 @@ scaled_covered x f S u F c e i (covered {a = a} {b = b} {s = s} {m = m} p p2 q q
     let h4 : hi ≤ℤ pos (S * F) = omega (arith, ints, clamps) in
     let z = size_least lo hi (S * F) h1 h2 h3 h4 in
     let y = size_least a b S p p2 q q2 in
-    let t1 : nat_lt (range_size a b * unsigned_abs f.num) (2 ^ 102) ≡ true = lt-ltb _ _ (small_product _ _ S y c i.numerator) in
+    let t1 : nat_lt (range_size a b * unsigned_abs f.num) (2 ^ 102) ≡ true =
+    lt-ltb _ _ (small_product _ _ S y c i.numerator) in
     let t2 : nat_lt (range_size lo hi) (2 ^ 100) ≡ true = lt-ltb _ _ (omega (arith, z, e)) in
     let w = width_least m (unsigned_abs f.num) F f.below i.size in
     let v : m * F ≤ u * F = mul-le-mul_right F r in

@@ -5,18 +5,21 @@ use Rattle.std.proofs.lemmas.Int.{ints}
 use Rattle.book_model.specs.Fraction.{◌≤F◌}
 use Rattle.book_model.specs.Interval.{Interval, everything, between, ◌⊆◌}
 use Rattle.book_model.proofs.Fractions.{le_refl, le_trans, plus_mono}
-use Rattle.book_model.specs.numbers.Bounds.{Bound, bounded, Limits, IsNarrow, at_32, bound_of, implies, limits_at, limits_of}
+use Rattle.book_model.specs.numbers.Bounds.{Bound, bounded, Limits, IsNarrow, at_32, bound_of, implies, limits_at}
+use Rattle.book_model.specs.numbers.Bounds.{limits_of}
 use Rattle.book_model.specs.numbers.Expressions.{Expression, argument}
 use Rattle.book_model.specs.numbers.Ranges.{IsBetween}
 use Rattle.book_model.specs.numbers.Relations.{Narrow, Keeps}
 use Rattle.book_model.proofs.Implying.{settled_at, limits_within}
 use Rattle.book_model.specs.programs.Widths.{IsWithin, IsAbout, IsMoment}
 
-grains_below : (p q : ℕ) → p ≤ q → (record { num = pos p; below = 2 ^ 104 - 1 }) ≤F (record { num = pos q; below = 2 ^ 104 - 1 })
+grains_below : (p q : ℕ) → p ≤ q → (record { num = pos p; below = 2 ^ 104 - 1 }) ≤F
+    (record { num = pos q; below = 2 ^ 104 - 1 })
 grains_below p q h = record { cross = omega (arith, ints) }
 
 -- a width by another slope and slack, which give no less
-pub remeasured : (a b : ℤ) (w s k u t m : ℕ) (i : Interval) → s * w + k * 2 ^ 40 ≤ t * u + m * 2 ^ 40 → IsNarrow w (bounded a b s k) i
+pub remeasured : (a b : ℤ) (w s k u t m : ℕ) (i : Interval) → s * w + k * 2 ^ 40 ≤ t * u + m * 2 ^ 40
+    → IsNarrow w (bounded a b s k) i
     → IsNarrow u (bounded a b t m) i
 unfolding IsNarrow
 remeasured a b w s k u t m everything h n = n
@@ -24,25 +27,33 @@ remeasured a b w s k u t m (between lo hi) h n = record {
   ordered = n.ordered;
   above = n.above;
   below = n.below;
-  close = le_trans _ _ _ n.close (plus_mono lo lo _ _ (le_refl lo) (grains_below (s * w + k * 2 ^ 40) (t * u + m * 2 ^ 40) h));
+  close = le_trans _ _ _ n.close
+      (plus_mono lo lo _ _ (le_refl lo) (grains_below (s * w + k * 2 ^ 40) (t * u + m * 2 ^ 40) h));
 }
 
 -- an argument that is as wide as the moment from which widths count
-pub measured_argument : {E : Type 0} (shown : E → Interval) (l : Limits) (low high : ℤ) (v k : ℕ) (e : E) → IsWithin low high v (shown e)
+pub measured_argument : {E : Type 0} (shown : E → Interval) (l : Limits) (low high : ℤ) (v k : ℕ) (e : E)
+    → IsWithin low high v (shown e)
     → Narrow shown l (record { width = v; bounds = λ n. bounded low high (2 ^ 40) 0 }) (argument k) e
 unfolding Keeps bound_of
-measured_argument shown l low high v k e h = record { kept = remeasured low high 0 0 v v (2 ^ 40) 0 (shown e) (omega arith) h.kept }
+measured_argument shown l low high v k e h =
+    record { kept = remeasured low high 0 0 v v (2 ^ 40) 0 (shown e) (omega arith) h.kept }
 
 -- an enclosure is measured by the computed bound of its expression at the scale 2^-56
-pub measured : {E : Type 0} (shown : E → Interval) (n w : ℕ) (b : ℕ → Bound) (x : Expression) (low high : ℤ) (s k u : ℕ) (e : E) → n ≡ 56
+pub measured : {E : Type 0} (shown : E → Interval) (n w : ℕ) (b : ℕ → Bound) (x : Expression) (low high : ℤ) (s k u : ℕ)
+    (e : E) → n ≡ 56
     → implies (bound_of (limits_at 56) b x) (bounded low high s k) ≡ true → s * w + k * 2 ^ 40 ≤ u * 2 ^ 40
     → Narrow shown (limits_of n) (record { width = w; bounds = b }) x e → IsWithin low high u (shown e)
 measured shown n w b x low high s k u e p i h y =
     let l = limits_within n (omega arith) (omega arith) in
-    record { kept = remeasured low high w s k 0 0 u (shown e) (omega arith) (settled_at shown n w b x (bounded low high s k) e (rw (l, p) i) y) }
+    record {
+      kept = remeasured low high w s k 0 0 u (shown e) (omega arith)
+          (settled_at shown n w b x (bounded low high s k) e (rw (l, p) i) y);
+    }
 
 -- what lies between two whole numbers
-pub drawn : (lo hi low high : ℤ) (v : ℕ) (i : Interval) → IsBetween lo hi i → IsWithin low high v i → IsWithin (lo *ℤ pos (2 ^ 32)) (hi *ℤ pos (2 ^ 32)) v i
+pub drawn : (lo hi low high : ℤ) (v : ℕ) (i : Interval) → IsBetween lo hi i → IsWithin low high v i
+    → IsWithin (lo *ℤ pos (2 ^ 32)) (hi *ℤ pos (2 ^ 32)) v i
 unfolding IsNarrow
 drawn lo hi low high v everything b h = record { kept = h.kept }
 drawn lo hi low high v (between x y) b h = record {
@@ -89,8 +100,10 @@ pub moment_about : (v : ℕ) (i : Interval) → IsMoment v i → IsAbout (2 ^ 90
 moment_about v i h = looser _ _ _ _ v v i (omega (arith, ints)) (omega (arith, ints)) (omega arith) h
 
 -- an argument whose width is linear in that from which widths count
-pub sloped : {E : Type 0} (shown : E → Interval) (l : Limits) (v u : ℕ) (bounds : ℕ → Bound) (k : ℕ) (a b : ℤ) (s m : ℕ) (x : E) → bounds k ≡ bounded a b s m
+pub sloped : {E : Type 0} (shown : E → Interval) (l : Limits) (v u : ℕ) (bounds : ℕ → Bound) (k : ℕ) (a b : ℤ) (s m : ℕ)
+    (x : E) → bounds k ≡ bounded a b s m
     → u * 2 ^ 40 ≤ s * v + m * 2 ^ 40 → IsWithin a b u (shown x)
     → Narrow shown l (record { width = v; bounds = bounds }) (argument k) x
 unfolding Keeps bound_of
-sloped shown l v u bounds k a b s m x e h i = record { kept = rw e (remeasured a b 0 0 u v s m (shown x) (omega (arith, h)) i.kept) }
+sloped shown l v u bounds k a b s m x e h i =
+    record { kept = rw e (remeasured a b 0 0 u v s m (shown x) (omega (arith, h)) i.kept) }

@@ -16,7 +16,8 @@ unfolding sum
 regrouped everything j k = record { endpoints = tt }
 regrouped (between a b) everything k = record { endpoints = tt }
 regrouped (between a b) (between c d) everything = record { endpoints = tt }
-regrouped (between a b) (between c d) (between e f) = record { endpoints = (ge_of_same (plus_assoc a c e), le_of_same (plus_assoc b d f)) }
+regrouped (between a b) (between c d) (between e f) =
+    record { endpoints = (ge_of_same (plus_assoc a c e), le_of_same (plus_assoc b d f)) }
 
 and_none : (i : Interval) → i ⊆ sum i (exactly (whole (pos 0)))
 unfolding sum
@@ -29,11 +30,13 @@ module _ {R : Type 0} (w : World) (term : R → Expression) (none : R) (xs ys : 
   unfolding terms_to
   first_rows zero h = refl
   first_rows (suc n) h =
-      let there : slice_index_or (xs ++ ys) n none ≡ slice_index_or xs n none = get_or_append_left xs ys none n (omega (arith, h)) in
+      let there : slice_index_or (xs ++ ys) n none ≡ slice_index_or xs n none = get_or_append_left xs ys none n
+      (omega (arith, h)) in
       rw (first_rows n (omega (arith, h)), there) refl
 
   -- and so many of the others
-  then_rows : (n : ℕ) → value w (terms_to term none (xs ++ ys) (length xs + n)) ⊆ sum (value w (terms_to term none xs (length xs)))
+  then_rows : (n : ℕ) → value w (terms_to term none (xs ++ ys) (length xs + n)) ⊆ sum
+      (value w (terms_to term none xs (length xs)))
       (value w (terms_to term none ys n))
   unfolding terms_to value
   then_rows zero =
@@ -41,12 +44,15 @@ module _ {R : Type 0} (w : World) (term : R → Expression) (none : R) (xs ys : 
       rw (all, first_rows (length xs) (omega arith)) (and_none _)
   then_rows (suc n) =
       let next : length xs + suc n ≡ suc (length xs + n) = omega arith in
-      let there : slice_index_or (xs ++ ys) (length xs + n) none ≡ slice_index_or ys n none = get_or-append-add xs ys n none in
+      let there : slice_index_or (xs ++ ys) (length xs + n) none ≡ slice_index_or ys n none =
+      get_or-append-add xs ys n none in
       rw (next, there) (within_trans (sum_within (then_rows n) (within_refl _)) (regrouped _ _ _))
 
 -- what holds the sum of two parts holds that of the whole
-pub parted : {R E : Type 0} {shown : E → Interval} {w : World} {e : E} (term : R → Expression) (none : R) (xs ys : List R)
-    → Within shown w (add (terms_of term none xs) (terms_of term none ys)) e → Within shown w (terms_of term none (xs ++ ys)) e
+pub parted : {R E : Type 0} {shown : E → Interval} {w : World} {e : E} (term : R → Expression) (none : R)
+    (xs ys : List R)
+    → Within shown w (add (terms_of term none xs) (terms_of term none ys)) e
+    → Within shown w (terms_of term none (xs ++ ys)) e
 unfolding Lies terms_of value
 parted {w = w} term none xs ys h =
     let all : length (xs ++ ys) ≡ length xs + length ys = length-append xs ys in

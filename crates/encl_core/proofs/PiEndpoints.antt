@@ -15,7 +15,8 @@ abbrev pub pi_endpoints : Interval
 pi_endpoints = between (units_of_56 PI_BELOW.num) (units_of_56 PI_ABOVE.num)
 
 -- what holds what lies between its neighbours holds pi
-pub within_pi : {E : Type 0} (shown : E → Interval) (w : World) (e : E) → 40 ≤ w.depth → pi_endpoints ⊆ shown e → Within shown w pi e
+pub within_pi : {E : Type 0} (shown : E → Interval) (w : World) (e : E) → 40 ≤ w.depth → pi_endpoints ⊆ shown e
+    → Within shown w pi e
 unfolding Lies value
 within_pi shown w e d h = record { deep = d; inside = within_trans (pi_number w.depth (omega (arith, d))) h }
 
@@ -30,6 +31,7 @@ endpoints_narrow w = record {
 
 -- and what is hardly wider is as narrow as pi
 pub narrow_pi : {E : Type 0} (shown : E → Interval) (n : ℕ) (r : Reach) (e : E)
-    → ((w : ℕ) (b : Bound) → IsNarrow w b (pi_endpoints) → IsNarrow w (spanned_bound (limits_of n) b) (shown e)) → Narrow shown (limits_of n) r pi e
+    → ((w : ℕ) (b : Bound) → IsNarrow w b (pi_endpoints) → IsNarrow w (spanned_bound (limits_of n) b) (shown e))
+    → Narrow shown (limits_of n) r pi e
 unfolding Keeps bound_of
 narrow_pi shown n r e h = record { kept = h r.width pi_spans (endpoints_narrow r.width) }

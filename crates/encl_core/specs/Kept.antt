@@ -32,7 +32,8 @@ answers_after (suc n) (voided s) = false
 answers_after (suc n) (undecided s i) = false
 answers_after (suc n) (decided s i r rest) = answers_after n rest
 
--- at every depth from the least on, a program makes so many tests, decides them all, and ends in a value that a span holds
+-- at every depth from the least on, a program makes so many tests, decides them all, and ends in a value that a span
+-- holds
 pub record IsKept (n : ℕ) (p : Program Expression) (s : Span) : Type 0 where
   pub answers : (w : World) → DEPTH ≤ w.depth → answers_after n (run w p) ≡ true
   pub holds : (w : World) → DEPTH ≤ w.depth → value w (leaf w p) ⊆ shown_span s
@@ -44,7 +45,8 @@ pub record IsKeptAbout (size width bits : ℕ) (s : Span) : Type 0 where
 -- the new moon of a number is at most so wide, where its year has ΔT: half of 2^-34 and a little more; recent ones lie
 -- where recent moments do
 pub record IsMoonWithin (number : ℤ) (bits : ℕ) (s : Span) : Type 0 where
-  pub about : negsuc 6299 ≤ℤ number → number ≤ℤ pos 55724 → bits ≡ 56 → IsDated 1 (2 ^ 29 + 2 ^ 24 + 2 ^ 17) (shown_span s)
+  pub about : negsuc 6299 ≤ℤ number → number ≤ℤ pos 55724 → bits ≡ 56
+      → IsDated 1 (2 ^ 29 + 2 ^ 24 + 2 ^ 17) (shown_span s)
   pub recent : FIRST_RECENT_MOON ≤ℤ number → number ≤ℤ LAST_RECENT_MOON → bits ≡ 56
       → IsFrom RECENT_START (TABLE_END +ℤ pos 1) (2 ^ 29 + 2 ^ 24 + 2 ^ 17) (shown_span s)
 

@@ -17,7 +17,8 @@ abbrev pub IsUndecidedLess : Interval → Interval → Site → Fail → Type 0
 IsUndecidedLess i j s (Undecided u) = IsUndecidedComparison i j u.lo u.hi × (u.site ≡ s)
 IsUndecidedLess i j s (Void t) = ⊥
 
--- A wrap by a modulus is undecided at the endpoints of an enclosure: the enclosure lies in no one period, and these are its endpoints.
+-- A wrap by a modulus is undecided at the endpoints of an enclosure: the enclosure lies in no one period, and these are
+-- its endpoints.
 pub record IsUndecidedPeriod (m : ℕ) (i : Interval) (lo hi : ℤ) : Type 0 where
   pub open_there : cell_at (multiples m) i ≡ None
   pub endpoints : AreEndpoints lo hi i

@@ -1,4 +1,5 @@
--- Alternating sums whose terms at least halve: the enclosure by twice the next term is nested in the depth, and goes up with the terms.
+-- Alternating sums whose terms at least halve: the enclosure by twice the next term is nested in the depth, and goes up
+-- with the terms.
 use Rattle.std.proofs.Common.{◌≡◌, ℕ, zero, suc, refl, ap, arith, unsigned_abs, ℤ, pos, negsuc, ◌*ℤ◌, ◌≤ℤ◌, [], ◌∷◌}
 use Rattle.std.proofs.lemmas.Int.{ints}
 use Rattle.exact_math.proofs.Ring.{Poly, at, lit, ◌⊕◌, ◌⊖◌, ◌⊗◌}
@@ -45,12 +46,14 @@ tail t h = record { nonneg = λ k. h.nonneg (suc k); halves = λ k. h.halves (su
 pub beneath_step : (t : ℕ → Fraction) (n : ℕ) → beneath t (suc n) ≈ plus (t 0) (opposite (atop (λ k. t (suc k)) n))
 unfolding beneath atop alternating
 beneath_step t n =
-    same_by (t 0 ∷ alternating (λ k. t (suc k)) n ∷ t (suc (suc n)) ∷ []) ((at 0 ⊖ at 1) ⊖ two ⊗ at 2) (at 0 ⊖ (at 1 ⊕ two ⊗ at 2)) refl
+    same_by (t 0 ∷ alternating (λ k. t (suc k)) n ∷ t (suc (suc n)) ∷ []) ((at 0 ⊖ at 1) ⊖ two ⊗ at 2)
+    (at 0 ⊖ (at 1 ⊕ two ⊗ at 2)) refl
 
 pub atop_step : (t : ℕ → Fraction) (n : ℕ) → atop t (suc n) ≈ plus (t 0) (opposite (beneath (λ k. t (suc k)) n))
 unfolding beneath atop alternating
 atop_step t n =
-    same_by (t 0 ∷ alternating (λ k. t (suc k)) n ∷ t (suc (suc n)) ∷ []) ((at 0 ⊖ at 1) ⊕ two ⊗ at 2) (at 0 ⊖ (at 1 ⊖ two ⊗ at 2)) refl
+    same_by (t 0 ∷ alternating (λ k. t (suc k)) n ∷ t (suc (suc n)) ∷ []) ((at 0 ⊖ at 1) ⊕ two ⊗ at 2)
+    (at 0 ⊖ (at 1 ⊖ two ⊗ at 2)) refl
 
 pub record SumsNest (t : ℕ → Fraction) (n : ℕ) : Type 0 where
   pub below : beneath t n ≤F beneath t (suc n)
@@ -59,19 +62,25 @@ pub record SumsNest (t : ℕ → Fraction) (n : ℕ) : Type 0 where
 -- from the tail, whatever the first term
 pub nested_by_tail : (t : ℕ → Fraction) (n : ℕ) → SumsNest (λ k. t (suc k)) n → SumsNest t (suc n)
 nested_by_tail t n h = record {
-  below = le_by (t 0 ∷ beneath t (suc n) ∷ beneath t (suc (suc n)) ∷ atop (λ k. t (suc k)) n ∷ atop (λ k. t (suc k)) (suc n) ∷ [])
-      ((at 1 ≗ at 0 ⊖ at 3) ∷ (at 2 ≗ at 0 ⊖ at 4) ∷ (at 4 ≼ at 3) ∷ []) (at 1) (at 2) (known 2 ⊞ multiple 0 (lit (pos 1)) ⊞ multiple 1 (lit (negsuc 0))) refl
+  below = le_by (t 0 ∷ beneath t (suc n) ∷ beneath t (suc (suc n)) ∷ atop (λ k. t (suc k)) n ∷ atop (λ k. t (suc k))
+      (suc n) ∷ [])
+      ((at 1 ≗ at 0 ⊖ at 3) ∷ (at 2 ≗ at 0 ⊖ at 4) ∷ (at 4 ≼ at 3) ∷ []) (at 1) (at 2)
+      (known 2 ⊞ multiple 0 (lit (pos 1)) ⊞ multiple 1 (lit (negsuc 0))) refl
       (beneath_step t n, (beneath_step t (suc n), (h.above, tt)));
-  above = le_by (t 0 ∷ atop t (suc (suc n)) ∷ atop t (suc n) ∷ beneath (λ k. t (suc k)) (suc n) ∷ beneath (λ k. t (suc k)) n ∷ [])
-      ((at 1 ≗ at 0 ⊖ at 3) ∷ (at 2 ≗ at 0 ⊖ at 4) ∷ (at 4 ≼ at 3) ∷ []) (at 1) (at 2) (known 2 ⊞ multiple 0 (lit (pos 1)) ⊞ multiple 1 (lit (negsuc 0))) refl
+  above = le_by (t 0 ∷ atop t (suc (suc n)) ∷ atop t (suc n) ∷ beneath (λ k. t (suc k)) (suc n) ∷ beneath
+      (λ k. t (suc k)) n ∷ [])
+      ((at 1 ≗ at 0 ⊖ at 3) ∷ (at 2 ≗ at 0 ⊖ at 4) ∷ (at 4 ≼ at 3) ∷ []) (at 1) (at 2)
+      (known 2 ⊞ multiple 0 (lit (pos 1)) ⊞ multiple 1 (lit (negsuc 0))) refl
       (atop_step t (suc n), (atop_step t n, (h.below, tt)));
 }
 
 pub nested : (n : ℕ) (t : ℕ → Fraction) → Halving t → SumsNest t n
 unfolding beneath atop alternating
 nested zero t h = record {
-  below = le_by (t 0 ∷ t 1 ∷ t 2 ∷ []) ((two ⊗ at 2 ≼ at 1) ∷ []) (at 0 ⊖ two ⊗ at 1) ((at 0 ⊖ at 1) ⊖ two ⊗ at 2) (known 0) refl (h.halves 1, tt);
-  above = le_by (t 0 ∷ t 1 ∷ t 2 ∷ []) ((two ⊗ at 2 ≼ at 1) ∷ (lit (pos 0) ≼ at 1) ∷ []) ((at 0 ⊖ at 1) ⊕ two ⊗ at 2) (at 0 ⊕ two ⊗ at 1)
+  below = le_by (t 0 ∷ t 1 ∷ t 2 ∷ []) ((two ⊗ at 2 ≼ at 1) ∷ []) (at 0 ⊖ two ⊗ at 1) ((at 0 ⊖ at 1) ⊖ two ⊗ at 2)
+      (known 0) refl (h.halves 1, tt);
+  above = le_by (t 0 ∷ t 1 ∷ t 2 ∷ []) ((two ⊗ at 2 ≼ at 1) ∷ (lit (pos 0) ≼ at 1) ∷ []) ((at 0 ⊖ at 1) ⊕ two ⊗ at 2)
+      (at 0 ⊕ two ⊗ at 1)
       (known 0 ⊞ natural 2 ⊠ known 1) refl (h.halves 1, (h.nonneg 1, tt));
 }
 nested (suc n) t h = nested_by_tail t n (nested n (λ k. t (suc k)) (tail t h))
@@ -91,21 +100,27 @@ record Risen (p q : ℕ → Fraction) (n : ℕ) : Type 0 where
 risen : (n : ℕ) (p q : ℕ → Fraction) → Rising p q → Risen p q n
 unfolding beneath atop alternating
 risen zero p q h = record {
-  low = le_by (p 0 ∷ q 0 ∷ p 1 ∷ q 1 ∷ []) ((at 0 ⊕ two ⊗ at 3 ≼ at 1 ⊕ two ⊗ at 2) ∷ []) (at 0 ⊖ two ⊗ at 2) (at 1 ⊖ two ⊗ at 3) (known 0) refl
+  low = le_by (p 0 ∷ q 0 ∷ p 1 ∷ q 1 ∷ []) ((at 0 ⊕ two ⊗ at 3 ≼ at 1 ⊕ two ⊗ at 2) ∷ []) (at 0 ⊖ two ⊗ at 2)
+      (at 1 ⊖ two ⊗ at 3) (known 0) refl
       (h.halves 0, tt);
-  high = le_by (p 0 ∷ q 0 ∷ p 1 ∷ q 1 ∷ []) ((at 0 ⊕ two ⊗ at 3 ≼ at 1 ⊕ two ⊗ at 2) ∷ []) ((at 1 ⊕ two ⊗ at 3) ⊕ two ⊗ at 0) ((at 0 ⊕ two ⊗ at 2) ⊕ two ⊗ at 1)
+  high = le_by (p 0 ∷ q 0 ∷ p 1 ∷ q 1 ∷ []) ((at 0 ⊕ two ⊗ at 3 ≼ at 1 ⊕ two ⊗ at 2) ∷ [])
+      ((at 1 ⊕ two ⊗ at 3) ⊕ two ⊗ at 0) ((at 0 ⊕ two ⊗ at 2) ⊕ two ⊗ at 1)
       (known 0) refl (h.halves 0, tt);
 }
 risen (suc n) p q h = by_tails p q n h (risen n (λ k. p (suc k)) (λ k. q (suc k)) (tails p q h))
   where
     by_tails : (p q : ℕ → Fraction) (n : ℕ) → Rising p q → Risen (λ k. p (suc k)) (λ k. q (suc k)) n → Risen p q (suc n)
     by_tails p q n h r = record {
-      low = le_by (p 0 ∷ q 0 ∷ p 1 ∷ q 1 ∷ beneath p (suc n) ∷ beneath q (suc n) ∷ atop (λ k. p (suc k)) n ∷ atop (λ k. q (suc k)) n ∷ [])
-          ((at 4 ≗ at 0 ⊖ at 6) ∷ (at 5 ≗ at 1 ⊖ at 7) ∷ (at 0 ⊕ two ⊗ at 3 ≼ at 1 ⊕ two ⊗ at 2) ∷ (at 7 ⊕ two ⊗ at 2 ≼ at 6 ⊕ two ⊗ at 3) ∷ []) (at 4) (at 5)
+      low = le_by (p 0 ∷ q 0 ∷ p 1 ∷ q 1 ∷ beneath p (suc n) ∷ beneath q (suc n) ∷ atop (λ k. p (suc k)) n
+          ∷ atop (λ k. q (suc k)) n ∷ [])
+          ((at 4 ≗ at 0 ⊖ at 6) ∷ (at 5 ≗ at 1 ⊖ at 7) ∷ (at 0 ⊕ two ⊗ at 3 ≼ at 1 ⊕ two ⊗ at 2)
+          ∷ (at 7 ⊕ two ⊗ at 2 ≼ at 6 ⊕ two ⊗ at 3) ∷ []) (at 4) (at 5)
           (known 2 ⊞ known 3 ⊞ multiple 0 (lit (pos 1)) ⊞ multiple 1 (lit (negsuc 0))) refl
           (beneath_step p n, (beneath_step q n, (h.halves 0, (r.high, tt))));
-      high = le_by (p 0 ∷ q 0 ∷ atop p (suc n) ∷ atop q (suc n) ∷ beneath (λ k. p (suc k)) n ∷ beneath (λ k. q (suc k)) n ∷ [])
-          ((at 2 ≗ at 0 ⊖ at 4) ∷ (at 3 ≗ at 1 ⊖ at 5) ∷ (at 0 ≼ at 1) ∷ (at 4 ≼ at 5) ∷ []) (at 3 ⊕ two ⊗ at 0) (at 2 ⊕ two ⊗ at 1)
+      high = le_by (p 0 ∷ q 0 ∷ atop p (suc n) ∷ atop q (suc n) ∷ beneath (λ k. p (suc k)) n ∷ beneath (λ k. q (suc k))
+          n ∷ [])
+          ((at 2 ≗ at 0 ⊖ at 4) ∷ (at 3 ≗ at 1 ⊖ at 5) ∷ (at 0 ≼ at 1) ∷ (at 4 ≼ at 5) ∷ []) (at 3 ⊕ two ⊗ at 0)
+          (at 2 ⊕ two ⊗ at 1)
           (known 2 ⊞ known 3 ⊞ multiple 0 (lit (negsuc 0)) ⊞ multiple 1 (lit (pos 1))) refl
           (atop_step p n, (atop_step q n, (h.above 0, (r.low, tt))));
     }
@@ -117,7 +132,8 @@ pub atop_rises : (n : ℕ) (p q : ℕ → Fraction) → Rising p q → atop p n 
 unfolding beneath atop
 atop_rises n p q h =
     le_by (alternating p n ∷ alternating q n ∷ p (suc n) ∷ q (suc n) ∷ [])
-    ((at 0 ⊖ two ⊗ at 2 ≼ at 1 ⊖ two ⊗ at 3) ∷ (at 2 ≼ at 3) ∷ []) (at 0 ⊕ two ⊗ at 2) (at 1 ⊕ two ⊗ at 3) (known 0 ⊞ natural 4 ⊠ known 1) refl
+    ((at 0 ⊖ two ⊗ at 2 ≼ at 1 ⊖ two ⊗ at 3) ∷ (at 2 ≼ at 3) ∷ []) (at 0 ⊕ two ⊗ at 2) (at 1 ⊕ two ⊗ at 3)
+    (known 0 ⊞ natural 4 ⊠ known 1) refl
     ((risen n p q h).low, (h.above (suc n), tt))
 
 -- where the first terms are in the other order, and from the second on they rise, the sums fall
@@ -142,11 +158,13 @@ atop_falls n p q h =
 -- the endpoints are in order, and not negative where the terms halve from the first on
 pub endpoints_in_order : (n : ℕ) (t : ℕ → Fraction) → zero_F ≤F t (suc n) → beneath t n ≤F atop t n
 unfolding beneath atop
-endpoints_in_order n t h = le_by (alternating t n ∷ t (suc n) ∷ []) ((lit (pos 0) ≼ at 1) ∷ []) (at 0 ⊖ two ⊗ at 1) (at 0 ⊕ two ⊗ at 1) (natural 4 ⊠ known 0) refl
+endpoints_in_order n t h = le_by (alternating t n ∷ t (suc n) ∷ []) ((lit (pos 0) ≼ at 1) ∷ []) (at 0 ⊖ two ⊗ at 1)
+    (at 0 ⊕ two ⊗ at 1) (natural 4 ⊠ known 0) refl
     (h, tt)
 
 -- ---- the same for the endpoints of a series, whose terms are not negative
-pub sums_nested : (n : ℕ) (t : ℕ → Fraction) → Halving t → (lower t n ≤F lower t (suc n)) × (upper t (suc n) ≤F upper t n)
+pub sums_nested : (n : ℕ) (t : ℕ → Fraction) → Halving t → (lower t n ≤F lower t (suc n))
+    × (upper t (suc n) ≤F upper t n)
 sums_nested n t h =
     let k = nested n t h in
     rw (
@@ -157,7 +175,8 @@ sums_nested n t h =
     ) (k.below, k.above)
 
 -- from the second term on
-pub later_sums_nested : (n : ℕ) (t : ℕ → Fraction) → Halving (λ k. t (suc k)) → (lower t (suc n) ≤F lower t (suc (suc n)))
+pub later_sums_nested : (n : ℕ) (t : ℕ → Fraction) → Halving (λ k. t (suc k))
+    → (lower t (suc n) ≤F lower t (suc (suc n)))
     × (upper t (suc (suc n)) ≤F upper t (suc n))
 later_sums_nested n t h =
     let k = nested_by_tail t n (nested n (λ k. t (suc k)) h) in
@@ -168,16 +187,20 @@ later_sums_nested n t h =
       upper_is_atop t (suc (suc n)) (h.nonneg (suc (suc n))),
     ) (k.below, k.above)
 
-pub lower_rises : (n : ℕ) (p q : ℕ → Fraction) → zero_F ≤F p (suc n) → zero_F ≤F q (suc n) → Rising p q → lower p n ≤F lower q n
+pub lower_rises : (n : ℕ) (p q : ℕ → Fraction) → zero_F ≤F p (suc n) → zero_F ≤F q (suc n) → Rising p q
+    → lower p n ≤F lower q n
 lower_rises n p q a b h = rw (lower_is_beneath p n a, lower_is_beneath q n b) (beneath_rises n p q h)
 
-pub upper_rises : (n : ℕ) (p q : ℕ → Fraction) → zero_F ≤F p (suc n) → zero_F ≤F q (suc n) → Rising p q → upper p n ≤F upper q n
+pub upper_rises : (n : ℕ) (p q : ℕ → Fraction) → zero_F ≤F p (suc n) → zero_F ≤F q (suc n) → Rising p q
+    → upper p n ≤F upper q n
 upper_rises n p q a b h = rw (upper_is_atop p n a, upper_is_atop q n b) (atop_rises n p q h)
 
-pub lower_falls : (n : ℕ) (p q : ℕ → Fraction) → zero_F ≤F p (suc (suc n)) → zero_F ≤F q (suc (suc n)) → Falling p q → lower q (suc n) ≤F lower p (suc n)
+pub lower_falls : (n : ℕ) (p q : ℕ → Fraction) → zero_F ≤F p (suc (suc n)) → zero_F ≤F q (suc (suc n)) → Falling p q
+    → lower q (suc n) ≤F lower p (suc n)
 lower_falls n p q a b h = rw (lower_is_beneath p (suc n) a, lower_is_beneath q (suc n) b) (beneath_falls n p q h)
 
-pub upper_falls : (n : ℕ) (p q : ℕ → Fraction) → zero_F ≤F p (suc (suc n)) → zero_F ≤F q (suc (suc n)) → Falling p q → upper q (suc n) ≤F upper p (suc n)
+pub upper_falls : (n : ℕ) (p q : ℕ → Fraction) → zero_F ≤F p (suc (suc n)) → zero_F ≤F q (suc (suc n)) → Falling p q
+    → upper q (suc n) ≤F upper p (suc n)
 upper_falls n p q a b h = rw (upper_is_atop p (suc n) a, upper_is_atop q (suc n) b) (atop_falls n p q h)
 
 pub sum_endpoints_in_order : (n : ℕ) (t : ℕ → Fraction) → zero_F ≤F t (suc n) → lower t n ≤F upper t n

@@ -1,6 +1,7 @@
--- Inequalities over ℤ by computation: a certificate says how the difference of the two sides is made of sums and products of the
--- differences of known inequalities, of squares and of naturals. Its check is a ring identity.
-use Rattle.std.proofs.Common.{◌≡◌, ℕ, zero, suc, ◌*◌, sym, subst, arith, ℤ, pos, negsuc, ◌+ℤ◌, ◌*ℤ◌, ◌-ℤ◌, ◌≤ℤ◌, List, [], ◌∷◌}
+-- Inequalities over ℤ by computation: a certificate says how the difference of the two sides is made of sums and
+-- products of the differences of known inequalities, of squares and of naturals. Its check is a ring identity.
+use Rattle.std.proofs.Common.{◌≡◌, ℕ, zero, suc, ◌*◌, sym, subst, arith, ℤ, pos, negsuc, ◌+ℤ◌, ◌*ℤ◌, ◌-ℤ◌, ◌≤ℤ◌, List}
+use Rattle.std.proofs.Common.{[], ◌∷◌}
 use Rattle.std.proofs.lemmas.Int.{ints}
 use Rattle.exact_math.proofs.Ring.{Poly, lit, ◌⊕◌, ◌⊖◌, ◌⊗◌, ring, value, normal}
 
@@ -70,22 +71,29 @@ gap_nonneg ρ ((p ≼ q) ∷ cs) (suc i) h = gap_nonneg ρ cs i h.1
 
 reached_nonneg : (ρ : List ℤ) (cs : List Claim) (c : Cert) → Holds ρ cs → pos 0 ≤ℤ value ρ (reached cs c)
 reached_nonneg ρ cs (known i) h = gap_nonneg ρ cs i h
-reached_nonneg ρ cs (c ⊞ d) h = add_nonneg (value ρ (reached cs c)) (value ρ (reached cs d)) (reached_nonneg ρ cs c h) (reached_nonneg ρ cs d h)
-reached_nonneg ρ cs (c ⊠ d) h = mul_nonneg (value ρ (reached cs c)) (value ρ (reached cs d)) (reached_nonneg ρ cs c h) (reached_nonneg ρ cs d h)
+reached_nonneg ρ cs (c ⊞ d) h = add_nonneg (value ρ (reached cs c)) (value ρ (reached cs d)) (reached_nonneg ρ cs c h)
+    (reached_nonneg ρ cs d h)
+reached_nonneg ρ cs (c ⊠ d) h = mul_nonneg (value ρ (reached cs c)) (value ρ (reached cs d)) (reached_nonneg ρ cs c h)
+    (reached_nonneg ρ cs d h)
 reached_nonneg ρ cs (square p) h = square_nonneg (value ρ p)
 reached_nonneg ρ cs (times n) h = pos_nonneg n
 
 -- p ≤ q, where q - p is what the certificate shows not to be negative
-pub le_by : (ρ : List ℤ) (cs : List Claim) (p q : Poly) (c : Cert) → normal (q ⊖ p) ≡ normal (reached cs c) → Holds ρ cs → value ρ p ≤ℤ value ρ q
-le_by ρ cs p q c e h = from_sub (value ρ p) (value ρ q) (subst (λ x. pos 0 ≤ℤ x) (sym (ring ρ (q ⊖ p) (reached cs c) e)) (reached_nonneg ρ cs c h))
+pub le_by : (ρ : List ℤ) (cs : List Claim) (p q : Poly) (c : Cert) → normal (q ⊖ p) ≡ normal (reached cs c) → Holds ρ cs
+    → value ρ p ≤ℤ value ρ q
+le_by ρ cs p q c e h = from_sub (value ρ p) (value ρ q) (subst (λ x. pos 0 ≤ℤ x) (sym (ring ρ (q ⊖ p) (reached cs c) e))
+    (reached_nonneg ρ cs c h))
 
 -- the same, where a positive s times q - p is shown
-pub le_over : (ρ : List ℤ) (cs : List Claim) (s p q : Poly) (c : Cert) → normal (s ⊗ (q ⊖ p)) ≡ normal (reached cs c) → pos 1 ≤ℤ value ρ s → Holds ρ cs
+pub le_over : (ρ : List ℤ) (cs : List Claim) (s p q : Poly) (c : Cert) → normal (s ⊗ (q ⊖ p)) ≡ normal (reached cs c)
+    → pos 1 ≤ℤ value ρ s → Holds ρ cs
     → value ρ p ≤ℤ value ρ q
 le_over ρ cs s p q c e k h =
     from_sub (value ρ p) (value ρ q) (over (value ρ s) (value ρ (q ⊖ p)) k
     (subst (λ x. pos 0 ≤ℤ x) (sym (ring ρ (s ⊗ (q ⊖ p)) (reached cs c) e)) (reached_nonneg ρ cs c h)))
 
 -- the claims cannot all hold, where -1 is shown not to be negative
-pub refute : (ρ : List ℤ) (cs : List Claim) (c : Cert) → normal (lit (negsuc 0)) ≡ normal (reached cs c) → Holds ρ cs → ⊥
-refute ρ cs c e h = negative 0 (subst (λ x. pos 0 ≤ℤ x) (sym (ring ρ (lit (negsuc 0)) (reached cs c) e)) (reached_nonneg ρ cs c h))
+pub refute : (ρ : List ℤ) (cs : List Claim) (c : Cert) → normal (lit (negsuc 0)) ≡ normal (reached cs c) → Holds ρ cs
+    → ⊥
+refute ρ cs c e h = negative 0 (subst (λ x. pos 0 ≤ℤ x) (sym (ring ρ (lit (negsuc 0)) (reached cs c) e))
+    (reached_nonneg ρ cs c h))

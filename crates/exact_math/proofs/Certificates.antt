@@ -1,5 +1,6 @@
--- Inequalities over fractions by computation. A certificate says how the difference of the two sides is made of sums and products of the
--- differences of known inequalities, of squares, of naturals and of multiples of known equations; its check is a ring identity.
+-- Inequalities over fractions by computation. A certificate says how the difference of the two sides is made of sums
+-- and products of the differences of known inequalities, of squares, of naturals and of multiples of known equations;
+-- its check is a ring identity.
 use Rattle.std.proofs.Common.{◌≡◌, ℕ, zero, suc, refl, arith, ℤ, pos, negsuc, ◌*ℤ◌, ◌≤ℤ◌, List, [], ◌∷◌, inl, inr}
 use Rattle.std.proofs.lemmas.Int.{ints}
 use Rattle.exact_math.proofs.Ring.{Poly, at, lit, ◌⊕◌, ◌⊖◌, ◌⊗◌, normal}
@@ -40,14 +41,16 @@ pub square_nonneg : (a : Fraction) → zero_F ≤F times a a
 square_nonneg a =
     elim (le_total zero_F a) [
       | inl h ↦ mul_nonneg a a h h
-      | inr h ↦ le_trans zero_F (times zero_F a) (times a a) (ge_of_same (same_by (a ∷ []) (lit (pos 0) ⊗ at 0) (lit (pos 0)) refl)) (times_anti a zero_F a h h)
+      | inr h ↦ le_trans zero_F (times zero_F a) (times a a)
+          (ge_of_same (same_by (a ∷ []) (lit (pos 0) ⊗ at 0) (lit (pos 0)) refl)) (times_anti a zero_F a h h)
     ]
 
 pub natural_nonneg : (n : ℕ) → zero_F ≤F whole (pos n)
 natural_nonneg n = record { cross = omega (arith, ints) }
 
 pub sub_same : (a b : Fraction) → a ≈ b → plus b (opposite a) ≈ zero_F
-sub_same a b e = same_trans (plus_cong (same_sym e) (same_refl (opposite a))) (same_by (a ∷ []) (at 0 ⊖ at 0) (lit (pos 0)) refl)
+sub_same a b e = same_trans (plus_cong (same_sym e) (same_refl (opposite a)))
+    (same_by (a ∷ []) (at 0 ⊖ at 0) (lit (pos 0)) refl)
 
 -- a positive natural times a is at least 0, and so is a
 over_z : (m : ℕ) (n d e : ℤ) → (pos 0 *ℤ e) ≤ℤ ((pos (suc m) *ℤ n) *ℤ pos 1) → (pos 0 *ℤ d) ≤ℤ (n *ℤ pos 1)
@@ -116,23 +119,29 @@ null_zero ρ ((p ≼ q) ∷ cs) (suc i) h = null_zero ρ cs i h.1
 null_zero ρ ((p ≗ q) ∷ cs) (suc i) h = null_zero ρ cs i h.1
 
 zero_factor : (a b : Fraction) → a ≈ zero_F → zero_F ≤F times a b
-zero_factor a b e = ge_of_same (same_trans (times_cong e (same_refl b)) (same_by (b ∷ []) (lit (pos 0) ⊗ at 0) (lit (pos 0)) refl))
+zero_factor a b e =
+    ge_of_same (same_trans (times_cong e (same_refl b)) (same_by (b ∷ []) (lit (pos 0) ⊗ at 0) (lit (pos 0)) refl))
 
 reached_nonneg : (ρ : List Fraction) (cs : List Claim) (c : Cert) → Holds ρ cs → zero_F ≤F value ρ (reached cs c)
 reached_nonneg ρ cs (known i) h = gap_nonneg ρ cs i h
 reached_nonneg ρ cs (multiple i p) h = zero_factor (value ρ (null cs i)) (value ρ p) (null_zero ρ cs i h)
-reached_nonneg ρ cs (c ⊞ d) h = add_nonneg (value ρ (reached cs c)) (value ρ (reached cs d)) (reached_nonneg ρ cs c h) (reached_nonneg ρ cs d h)
-reached_nonneg ρ cs (c ⊠ d) h = mul_nonneg (value ρ (reached cs c)) (value ρ (reached cs d)) (reached_nonneg ρ cs c h) (reached_nonneg ρ cs d h)
+reached_nonneg ρ cs (c ⊞ d) h = add_nonneg (value ρ (reached cs c)) (value ρ (reached cs d)) (reached_nonneg ρ cs c h)
+    (reached_nonneg ρ cs d h)
+reached_nonneg ρ cs (c ⊠ d) h = mul_nonneg (value ρ (reached cs c)) (value ρ (reached cs d)) (reached_nonneg ρ cs c h)
+    (reached_nonneg ρ cs d h)
 reached_nonneg ρ cs (square p) h = square_nonneg (value ρ p)
 reached_nonneg ρ cs (natural n) h = natural_nonneg n
 
 -- p ≤ q, where q - p, or s + 1 times that, is what the certificate shows not to be negative
-pub le_by : (ρ : List Fraction) (cs : List Claim) (p q : Poly) (c : Cert) → normal (q ⊖ p) ≡ normal (reached cs c) → Holds ρ cs → value ρ p ≤F value ρ q
+pub le_by : (ρ : List Fraction) (cs : List Claim) (p q : Poly) (c : Cert) → normal (q ⊖ p) ≡ normal (reached cs c)
+    → Holds ρ cs → value ρ p ≤F value ρ q
 le_by ρ cs p q c e h =
     from_sub (value ρ p) (value ρ q)
-    (le_trans zero_F (value ρ (reached cs c)) (value ρ (q ⊖ p)) (reached_nonneg ρ cs c h) (ge_of_same (same_by ρ (q ⊖ p) (reached cs c) e)))
+    (le_trans zero_F (value ρ (reached cs c)) (value ρ (q ⊖ p)) (reached_nonneg ρ cs c h)
+    (ge_of_same (same_by ρ (q ⊖ p) (reached cs c) e)))
 
-pub le_over : (s : ℕ) (ρ : List Fraction) (cs : List Claim) (p q : Poly) (c : Cert) → normal (lit (pos (suc s)) ⊗ (q ⊖ p)) ≡ normal (reached cs c) → Holds ρ cs
+pub le_over : (s : ℕ) (ρ : List Fraction) (cs : List Claim) (p q : Poly) (c : Cert)
+    → normal (lit (pos (suc s)) ⊗ (q ⊖ p)) ≡ normal (reached cs c) → Holds ρ cs
     → value ρ p ≤F value ρ q
 le_over s ρ cs p q c e h =
     from_sub (value ρ p) (value ρ q)
@@ -148,8 +157,10 @@ not_negative : (n : ℕ) → zero_F ≤F whole (negsuc n) → ⊥
 not_negative n h = omega (arith, ints, h.cross)
 
 -- claims that show a negative number not to be negative
-pub refute : (n : ℕ) (ρ : List Fraction) (cs : List Claim) (c : Cert) → normal (lit (negsuc n)) ≡ normal (reached cs c) → Holds ρ cs → ⊥
-refute n ρ cs c e h = not_negative n (le_trans zero_F (value ρ (reached cs c)) (whole (negsuc n)) (reached_nonneg ρ cs c h)
+pub refute : (n : ℕ) (ρ : List Fraction) (cs : List Claim) (c : Cert) → normal (lit (negsuc n)) ≡ normal (reached cs c)
+    → Holds ρ cs → ⊥
+refute n ρ cs c e h = not_negative n (le_trans zero_F (value ρ (reached cs c)) (whole (negsuc n))
+    (reached_nonneg ρ cs c h)
     (ge_of_same (same_by ρ (lit (negsuc n)) (reached cs c) e)))
 
 -- p and q are of one value: q - p is the sum of these multiples of known equations
@@ -157,15 +168,18 @@ abbrev pub combined : List Claim → List (ℕ × Poly) → Poly
 combined cs [] = lit (pos 0)
 combined cs (m ∷ ms) = null cs m.0 ⊗ m.1 ⊕ combined cs ms
 
-combined_zero : (ρ : List Fraction) (cs : List Claim) (ms : List (ℕ × Poly)) → Holds ρ cs → value ρ (combined cs ms) ≈ zero_F
+combined_zero : (ρ : List Fraction) (cs : List Claim) (ms : List (ℕ × Poly)) → Holds ρ cs
+    → value ρ (combined cs ms) ≈ zero_F
 combined_zero ρ cs [] h = same_refl zero_F
 combined_zero ρ cs (m ∷ ms) h =
     same_trans (plus_cong (times_cong (null_zero ρ cs m.0 h) (same_refl (value ρ m.1))) (combined_zero ρ cs ms h))
     (same_by (value ρ m.1 ∷ []) (lit (pos 0) ⊗ at 0 ⊕ lit (pos 0)) (lit (pos 0)) refl)
 
-pub same_given : (ρ : List Fraction) (cs : List Claim) (p q : Poly) (ms : List (ℕ × Poly)) → normal (q ⊖ p) ≡ normal (combined cs ms) → Holds ρ cs
+pub same_given : (ρ : List Fraction) (cs : List Claim) (p q : Poly) (ms : List (ℕ × Poly))
+    → normal (q ⊖ p) ≡ normal (combined cs ms) → Holds ρ cs
     → value ρ p ≈ value ρ q
 same_given ρ cs p q ms e h =
     same_trans (same_by (value ρ p ∷ []) (at 0) (at 0 ⊕ lit (pos 0)) refl)
-    (same_trans (plus_cong (same_refl (value ρ p)) (same_sym (same_trans (same_by ρ (q ⊖ p) (combined cs ms) e) (combined_zero ρ cs ms h))))
+    (same_trans (plus_cong (same_refl (value ρ p))
+    (same_sym (same_trans (same_by ρ (q ⊖ p) (combined cs ms) e) (combined_zero ρ cs ms h))))
     (same_by (value ρ p ∷ value ρ q ∷ []) (at 0 ⊕ (at 1 ⊖ at 0)) (at 1) refl))

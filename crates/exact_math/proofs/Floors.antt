@@ -40,11 +40,13 @@ quotient_below m n d e h = go (compare_with (m / suc e) (n / suc d))
         let t = mul-le-mul_left (suc d * suc e) k in
         absurd (omega (arith, l, r, t))
 
-pub floor_quotient_mono : (n m : ℤ) (d e : ℕ) → (n *ℤ pos (suc e)) ≤ℤ (m *ℤ pos (suc d)) → floor_quotient n d ≤ℤ floor_quotient m e
+pub floor_quotient_mono : (n m : ℤ) (d e : ℕ) → (n *ℤ pos (suc e)) ≤ℤ (m *ℤ pos (suc d))
+    → floor_quotient n d ≤ℤ floor_quotient m e
 floor_quotient_mono (pos a) (pos b) d e h = let k = quotient_mono a b d e (omega (arith, ints)) in omega (arith, ints)
 floor_quotient_mono (pos a) (negsuc b) d e h = absurd (omega (arith, ints))
 floor_quotient_mono (negsuc a) (pos b) d e h = omega (arith, ints)
-floor_quotient_mono (negsuc a) (negsuc b) d e h = let k = quotient_below b a d e (omega (arith, ints)) in omega (arith, ints)
+floor_quotient_mono (negsuc a) (negsuc b) d e h = let k = quotient_below b a d e (omega (arith, ints)) in
+    omega (arith, ints)
 
 pub floor_mono : (a b : Fraction) → a ≤F b → floor a ≤ℤ floor b
 floor_mono a b h = floor_quotient_mono a.num b.num a.below b.below h.cross
@@ -58,8 +60,10 @@ nat_floor : (n d : ℕ) → ((n / suc d) * suc d ≤ n) × (n < (n / suc d) * su
 nat_floor n d = (omega arith, omega arith)
 
 pub floor_quotient_is : (n : ℤ) (d : ℕ) → IsFloorQuotient (floor_quotient n d) n d
-floor_quotient_is (pos n) d = let w = nat_floor n d in record { not_above = omega (arith, ints, w.0, w.1); close = omega (arith, ints, w.0, w.1) }
-floor_quotient_is (negsuc n) d = let w = nat_floor n d in record { not_above = omega (arith, ints, w.0, w.1); close = omega (arith, ints, w.0, w.1) }
+floor_quotient_is (pos n) d = let w = nat_floor n d in
+    record { not_above = omega (arith, ints, w.0, w.1); close = omega (arith, ints, w.0, w.1) }
+floor_quotient_is (negsuc n) d = let w = nat_floor n d in
+    record { not_above = omega (arith, ints, w.0, w.1); close = omega (arith, ints, w.0, w.1) }
 
 -- the floor of a fraction is at most it, and more than 1 less is not
 pub floor_below : (a : Fraction) → whole (floor a) ≤F a

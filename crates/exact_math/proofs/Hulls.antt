@@ -4,7 +4,8 @@ use Rattle.std.proofs.lemmas.Int.{ints}
 use lib.Signed.{le_z}
 use Rattle.exact_math.specs.Fraction.{Fraction, den, ◌≤F◌, is_at_most, opposite, smaller, larger}
 use Rattle.exact_math.specs.Interval.{Interval, everything, between, AreWithin, ◌⊆◌, hull, negative}
-use Rattle.exact_math.proofs.Fractions.{smaller_keeps, smaller_first, smaller_second, larger_keeps, larger_first, larger_second}
+use Rattle.exact_math.proofs.Fractions.{smaller_keeps, smaller_first, smaller_second, larger_keeps, larger_first}
+use Rattle.exact_math.proofs.Fractions.{larger_second}
 use Rattle.exact_math.proofs.Intervals.{within_everything}
 
 pub true_at_most : (a b : Fraction) → a ≤F b → is_at_most a b ≡ true
@@ -32,7 +33,8 @@ unfolding hull
 hull_least_endpoints i j everything p q = tt
 hull_least_endpoints everything j (between e f) p q = absurd p
 hull_least_endpoints (between a b) everything (between e f) p q = absurd q
-hull_least_endpoints (between a b) (between c d) (between e f) p q = (smaller_keeps (λ z. e ≤F z) a c p.0 q.0, larger_keeps (λ z. z ≤F f) b d p.1 q.1)
+hull_least_endpoints (between a b) (between c d) (between e f) p q =
+    (smaller_keeps (λ z. e ≤F z) a c p.0 q.0, larger_keeps (λ z. z ≤F f) b d p.1 q.1)
 
 -- what holds both holds the hull
 pub hull_least : {i j k : Interval} → i ⊆ k → j ⊆ k → hull i j ⊆ k
@@ -50,6 +52,7 @@ negative_hull (between a b) (between c d) = record {
   endpoints = (
     larger_keeps (λ z. smaller (opposite b) (opposite d) ≤F opposite z) b d (smaller_first (opposite b) (opposite d))
         (smaller_second (opposite b) (opposite d)),
-    smaller_keeps (λ z. opposite z ≤F larger (opposite a) (opposite c)) a c (larger_first (opposite a) (opposite c)) (larger_second (opposite a) (opposite c)),
+    smaller_keeps (λ z. opposite z ≤F larger (opposite a) (opposite c)) a c (larger_first (opposite a) (opposite c))
+        (larger_second (opposite a) (opposite c)),
   );
 }

@@ -1,21 +1,33 @@
 -- What the operations on intervals hold, and that narrower operands give results within.
-use Rattle.std.proofs.Common.{◌≡◌, ℕ, zero, suc, refl, sym, arith, Bool, true, false, cond, pos, ◌*ℤ◌, ◌≤ℤ◌, ◌⊎◌, inl, inr}
-use Rattle.exact_math.specs.Fraction.{Fraction, ◌≤F◌, plus, opposite, size, times, is_at_most, smaller, larger, reciprocal, power, is_even}
+use Rattle.std.proofs.Common.{◌≡◌, ℕ, zero, suc, refl, sym, arith, Bool, true, false, cond, pos, ◌*ℤ◌, ◌≤ℤ◌, ◌⊎◌, inl}
+use Rattle.std.proofs.Common.{inr}
+use Rattle.exact_math.specs.Fraction.{Fraction, ◌≤F◌, plus, opposite, size, times, is_at_most, smaller, larger}
+use Rattle.exact_math.specs.Fraction.{reciprocal, power, is_even}
 use Rattle.exact_math.specs.Smallest.{IsSmallest, IsSmallestOfTwo, IsSmallestAround}
-use Rattle.exact_math.specs.Interval.{Interval, everything, between, IsProper, IsMember, AreWithin, ◌⊆◌, sum, negative, difference, least, greatest, product, minimum, maximum, hull, one, minus_one, clamp, widen, zero_fraction, excludes_zero, quotient, least_even, power as interval_power}
+use Rattle.exact_math.specs.Interval.{Interval, everything, between, IsProper, IsMember, AreWithin, ◌⊆◌, sum, negative}
+use Rattle.exact_math.specs.Interval.{difference, least, greatest, product, minimum, maximum, hull, one, minus_one}
+use Rattle.exact_math.specs.Interval.{clamp, widen, zero_fraction, excludes_zero, quotient, least_even}
+use Rattle.exact_math.specs.Interval.{power as interval_power}
 use lib.Signed.{lt_z}
 use lib.IntN.{neg_ℤ}
 use Rattle.std.specs.Prelude.{unsigned_abs}
 use Rattle.std.proofs.lemmas.Int.{ints}
-use Rattle.exact_math.proofs.Fractions.{le_refl, le_trans, le_total, plus_mono, opposite_mono, IsPositive, IsNegative, positive_above, negative_below, reciprocal_anti_positive, reciprocal_anti_negative, power_mono, power_odd_mono, power_even_falling, power_even_least, at_most_true, at_most_false, smaller_keeps, larger_keeps, smaller_first, smaller_second, larger_first, larger_second, four_above, four_below}
+use Rattle.exact_math.proofs.Fractions.{le_refl, le_trans, le_total, plus_mono, opposite_mono, IsPositive, IsNegative}
+use Rattle.exact_math.proofs.Fractions.{positive_above, negative_below, reciprocal_anti_positive}
+use Rattle.exact_math.proofs.Fractions.{reciprocal_anti_negative, power_mono, power_odd_mono, power_even_falling}
+use Rattle.exact_math.proofs.Fractions.{power_even_least, at_most_true, at_most_false, smaller_keeps, larger_keeps}
+use Rattle.exact_math.proofs.Fractions.{smaller_first, smaller_second, larger_first, larger_second, four_above}
+use Rattle.exact_math.proofs.Fractions.{four_below}
 
 pub smaller_mono : (a b c d : Fraction) → a ≤F b → c ≤F d → smaller a c ≤F smaller b d
 smaller_mono a b c d h k =
-    smaller_keeps (λ x. smaller a c ≤F x) b d (le_trans (smaller a c) a b (smaller_first a c) h) (le_trans (smaller a c) c d (smaller_second a c) k)
+    smaller_keeps (λ x. smaller a c ≤F x) b d (le_trans (smaller a c) a b (smaller_first a c) h)
+    (le_trans (smaller a c) c d (smaller_second a c) k)
 
 pub larger_mono : (a b c d : Fraction) → a ≤F b → c ≤F d → larger a c ≤F larger b d
 larger_mono a b c d h k =
-    larger_keeps (λ x. x ≤F larger b d) a c (le_trans a b (larger b d) h (larger_first b d)) (le_trans c d (larger b d) k (larger_second b d))
+    larger_keeps (λ x. x ≤F larger b d) a c (le_trans a b (larger b d) h (larger_first b d))
+    (le_trans c d (larger b d) k (larger_second b d))
 
 -- ---- members
 pub sum_holds : (i j : Interval) (x y : Fraction) → IsMember x i → IsMember y j → IsMember (plus x y) (sum i j)
@@ -36,14 +48,17 @@ greatest_keeps P p q r s hp hq hr hs = larger_keeps P _ _ (larger_keeps P p q hp
 pub least_is : (z p q r s : Fraction) → z ≤F p → z ≤F q → z ≤F r → z ≤F s → z ≤F least p q r s
 unfolding least
 least_is z p q r s hp hq hr hs =
-    smaller_keeps (λ x. z ≤F x) (smaller p q) (smaller r s) (smaller_keeps (λ x. z ≤F x) p q hp hq) (smaller_keeps (λ x. z ≤F x) r s hr hs)
+    smaller_keeps (λ x. z ≤F x) (smaller p q) (smaller r s) (smaller_keeps (λ x. z ≤F x) p q hp hq)
+    (smaller_keeps (λ x. z ≤F x) r s hr hs)
 
 pub greatest_is : (z p q r s : Fraction) → p ≤F z → q ≤F z → r ≤F z → s ≤F z → greatest p q r s ≤F z
 unfolding greatest
 greatest_is z p q r s hp hq hr hs =
-    larger_keeps (λ x. x ≤F z) (larger p q) (larger r s) (larger_keeps (λ x. x ≤F z) p q hp hq) (larger_keeps (λ x. x ≤F z) r s hr hs)
+    larger_keeps (λ x. x ≤F z) (larger p q) (larger r s) (larger_keeps (λ x. x ≤F z) p q hp hq)
+    (larger_keeps (λ x. x ≤F z) r s hr hs)
 
-pub least_below : (p q r s : Fraction) → (least p q r s ≤F p) × (least p q r s ≤F q) × (least p q r s ≤F r) × (least p q r s ≤F s)
+pub least_below : (p q r s : Fraction) → (least p q r s ≤F p) × (least p q r s ≤F q) × (least p q r s ≤F r)
+    × (least p q r s ≤F s)
 unfolding least
 least_below p q r s = (
   le_trans _ _ _ (smaller_first (smaller p q) (smaller r s)) (smaller_first p q),
@@ -52,7 +67,8 @@ least_below p q r s = (
   le_trans _ _ _ (smaller_second (smaller p q) (smaller r s)) (smaller_second r s),
 )
 
-pub greatest_above : (p q r s : Fraction) → (p ≤F greatest p q r s) × (q ≤F greatest p q r s) × (r ≤F greatest p q r s) × (s ≤F greatest p q r s)
+pub greatest_above : (p q r s : Fraction) → (p ≤F greatest p q r s) × (q ≤F greatest p q r s) × (r ≤F greatest p q r s)
+    × (s ≤F greatest p q r s)
 unfolding greatest
 greatest_above p q r s = (
   le_trans _ _ _ (larger_first p q) (larger_first (larger p q) (larger r s)),
@@ -68,8 +84,10 @@ product_holds (between a b) everything x y h k = tt
 product_holds (between a b) (between c d) x y h k =
     let lo = least_below (times a c) (times a d) (times b c) (times b d) in
     let hi = greatest_above (times a c) (times a d) (times b c) (times b d) in (
-      four_above (least (times a c) (times a d) (times b c) (times b d)) a b c d x y h.0 h.1 k.0 k.1 lo.0 lo.1 lo.2 lo.3,
-      four_below (greatest (times a c) (times a d) (times b c) (times b d)) a b c d x y h.0 h.1 k.0 k.1 hi.0 hi.1 hi.2 hi.3,
+      four_above (least (times a c) (times a d) (times b c) (times b d)) a b c d x y h.0 h.1 k.0 k.1 lo.0 lo.1
+          lo.2 lo.3,
+      four_below (greatest (times a c) (times a d) (times b c) (times b d)) a b c d x y h.0 h.1 k.0 k.1 hi.0 hi.1
+          hi.2 hi.3,
     )
 
 -- ---- narrower operands
@@ -91,16 +109,19 @@ sum_endpoints i everything j j' h k = tt
 sum_endpoints i (between a' b') j everything h k = tt
 sum_endpoints everything (between a' b') j (between c' d') h k = absurd h
 sum_endpoints (between a b) (between a' b') everything (between c' d') h k = absurd k
-sum_endpoints (between a b) (between a' b') (between c d) (between c' d') h k = (plus_mono a' a c' c h.0 k.0, plus_mono b b' d d' h.1 k.1)
+sum_endpoints (between a b) (between a' b') (between c d) (between c' d') h k =
+    (plus_mono a' a c' c h.0 k.0, plus_mono b b' d d' h.1 k.1)
 
 pub sum_within : {i i' j j' : Interval} → i ⊆ i' → j ⊆ j' → sum i j ⊆ sum i' j'
 sum_within {i} {i'} {j} {j'} h k = record { endpoints = sum_endpoints i i' j j' h.endpoints k.endpoints }
 
 -- the endpoints of a proper interval within another are members of that
-endpoints_within : (a b c d : Fraction) → a ≤F b → AreWithin (between a b) (between c d) → IsMember a (between c d) × IsMember b (between c d)
+endpoints_within : (a b c d : Fraction) → a ≤F b → AreWithin (between a b) (between c d) → IsMember a (between c d)
+    × IsMember b (between c d)
 endpoints_within a b c d p h = ((h.0, le_trans a b d p h.1), (le_trans c a b h.0 p, h.1))
 
-product_endpoints : (i i' j j' : Interval) → IsProper i → IsProper j → AreWithin i i' → AreWithin j j' → AreWithin (product i j) (product i' j')
+product_endpoints : (i i' j j' : Interval) → IsProper i → IsProper j → AreWithin i i' → AreWithin j j'
+    → AreWithin (product i j) (product i' j')
 unfolding product
 product_endpoints i everything j j' p q h k = tt
 product_endpoints i (between a' b') j everything p q h k = tt
@@ -109,16 +130,21 @@ product_endpoints (between a b) (between a' b') everything (between c' d') p q h
 product_endpoints (between a b) (between a' b') (between c d) (between c' d') p q h k =
     let m = endpoints_within a b a' b' p h in
     let n = endpoints_within c d c' d' q k in
-    let ac : IsMember (times a c) (product (between a' b') (between c' d')) = product_holds (between a' b') (between c' d') a c m.0 n.0 in
-    let ad : IsMember (times a d) (product (between a' b') (between c' d')) = product_holds (between a' b') (between c' d') a d m.0 n.1 in
-    let bc : IsMember (times b c) (product (between a' b') (between c' d')) = product_holds (between a' b') (between c' d') b c m.1 n.0 in
-    let bd : IsMember (times b d) (product (between a' b') (between c' d')) = product_holds (between a' b') (between c' d') b d m.1 n.1 in (
+    let ac : IsMember (times a c) (product (between a' b') (between c' d')) = product_holds (between a' b')
+    (between c' d') a c m.0 n.0 in
+    let ad : IsMember (times a d) (product (between a' b') (between c' d')) = product_holds (between a' b')
+    (between c' d') a d m.0 n.1 in
+    let bc : IsMember (times b c) (product (between a' b') (between c' d')) = product_holds (between a' b')
+    (between c' d') b c m.1 n.0 in
+    let bd : IsMember (times b d) (product (between a' b') (between c' d')) = product_holds (between a' b')
+    (between c' d') b d m.1 n.1 in (
       least_is _ (times a c) (times a d) (times b c) (times b d) ac.0 ad.0 bc.0 bd.0,
       greatest_is _ (times a c) (times a d) (times b c) (times b d) ac.1 ad.1 bc.1 bd.1,
     )
 
 pub product_within : {i i' j j' : Interval} → IsProper i → IsProper j → i ⊆ i' → j ⊆ j' → product i j ⊆ product i' j'
-product_within {i} {i'} {j} {j'} p q h k = record { endpoints = product_endpoints i i' j j' p q h.endpoints k.endpoints }
+product_within {i} {i'} {j} {j'} p q h k =
+    record { endpoints = product_endpoints i i' j j' p q h.endpoints k.endpoints }
 
 -- ---- the other operations
 -- an operation's endpoints, where both operands are bounded
@@ -134,7 +160,8 @@ minimum_endpoints i everything j j' h k = tt
 minimum_endpoints i (between a' b') j everything h k = tt
 minimum_endpoints everything (between a' b') j (between c' d') h k = absurd h
 minimum_endpoints (between a b) (between a' b') everything (between c' d') h k = absurd k
-minimum_endpoints (between a b) (between a' b') (between c d) (between c' d') h k = (smaller_mono a' a c' c h.0 k.0, smaller_mono b b' d d' h.1 k.1)
+minimum_endpoints (between a b) (between a' b') (between c d) (between c' d') h k =
+    (smaller_mono a' a c' c h.0 k.0, smaller_mono b b' d d' h.1 k.1)
 
 maximum_endpoints : (i i' j j' : Interval) → AreWithin i i' → AreWithin j j' → AreWithin (maximum i j) (maximum i' j')
 unfolding maximum
@@ -142,7 +169,8 @@ maximum_endpoints i everything j j' h k = tt
 maximum_endpoints i (between a' b') j everything h k = tt
 maximum_endpoints everything (between a' b') j (between c' d') h k = absurd h
 maximum_endpoints (between a b) (between a' b') everything (between c' d') h k = absurd k
-maximum_endpoints (between a b) (between a' b') (between c d) (between c' d') h k = (larger_mono a' a c' c h.0 k.0, larger_mono b b' d d' h.1 k.1)
+maximum_endpoints (between a b) (between a' b') (between c d) (between c' d') h k =
+    (larger_mono a' a c' c h.0 k.0, larger_mono b b' d d' h.1 k.1)
 
 hull_endpoints : (i i' j j' : Interval) → AreWithin i i' → AreWithin j j' → AreWithin (hull i j) (hull i' j')
 unfolding hull
@@ -150,16 +178,23 @@ hull_endpoints i everything j j' h k = tt
 hull_endpoints i (between a' b') j everything h k = tt
 hull_endpoints everything (between a' b') j (between c' d') h k = absurd h
 hull_endpoints (between a b) (between a' b') everything (between c' d') h k = absurd k
-hull_endpoints (between a b) (between a' b') (between c d) (between c' d') h k = (smaller_mono a' a c' c h.0 k.0, larger_mono b b' d d' h.1 k.1)
+hull_endpoints (between a b) (between a' b') (between c d) (between c' d') h k =
+    (smaller_mono a' a c' c h.0 k.0, larger_mono b b' d d' h.1 k.1)
 
 clamped_mono : (x y : Fraction) → x ≤F y → larger minus_one (smaller x one) ≤F larger minus_one (smaller y one)
-clamped_mono x y h = larger_mono minus_one minus_one (smaller x one) (smaller y one) (le_refl minus_one) (smaller_mono x y one one h (le_refl one))
+clamped_mono x y h = larger_mono minus_one minus_one (smaller x one) (smaller y one) (le_refl minus_one)
+    (smaller_mono x y one one h (le_refl one))
 
 minus_one_below : minus_one ≤F one
 minus_one_below = record { cross = omega (arith, ints) }
 
-clamped_in : (x : Fraction) → (minus_one ≤F larger minus_one (smaller x one)) × (larger minus_one (smaller x one) ≤F one)
-clamped_in x = (larger_first minus_one (smaller x one), larger_keeps (λ z. z ≤F one) minus_one (smaller x one) minus_one_below (smaller_second x one))
+clamped_in : (x : Fraction) → (minus_one ≤F larger minus_one (smaller x one))
+    × (larger minus_one (smaller x one) ≤F one)
+clamped_in x = (
+  larger_first minus_one (smaller x one),
+  larger_keeps (λ z. z ≤F one) minus_one (smaller x one)
+      minus_one_below (smaller_second x one),
+)
 
 clamp_endpoints : (i i' : Interval) → AreWithin i i' → AreWithin (clamp i) (clamp i')
 unfolding clamp
@@ -178,10 +213,12 @@ widen_endpoints e (between a b) (between a' b') h = (
 )
 
 -- ---- the quotient
-excluded : (c d : Fraction) → c ≤F d → excludes_zero c d ≡ true → (IsPositive c × IsPositive d) ⊎ (IsNegative c × IsNegative d)
+excluded : (c d : Fraction) → c ≤F d → excludes_zero c d ≡ true → (IsPositive c × IsPositive d)
+    ⊎ (IsNegative c × IsNegative d)
 excluded c d l e = by_test (lt_z (pos 0) c.num) refl e
   where
-    by_test : (t : Bool) → lt_z (pos 0) c.num ≡ t → cond t true (lt_z d.num (pos 0)) ≡ true → (IsPositive c × IsPositive d) ⊎ (IsNegative c × IsNegative d)
+    by_test : (t : Bool) → lt_z (pos 0) c.num ≡ t → cond t true (lt_z d.num (pos 0)) ≡ true
+        → (IsPositive c × IsPositive d) ⊎ (IsNegative c × IsNegative d)
     by_test true p e = let h : IsPositive c = record { above = omega (arith, ints) } in inl (h, positive_above c d h l)
     by_test false p e = let h : IsNegative d = record { under = omega (arith, ints) } in inr (negative_below c d h l, h)
 
@@ -196,7 +233,8 @@ negative_excludes c d h = by_test (lt_z (pos 0) c.num)
     by_test false = let e : true ≡ lt_z d.num (pos 0) = omega (arith, ints) in sym e
 
 -- between reciprocals of one sign
-reciprocals : (c d c' d' : Fraction) → c ≤F d → excludes_zero c' d' ≡ true → c' ≤F c → d ≤F d' → (excludes_zero c d ≡ true)
+reciprocals : (c d c' d' : Fraction) → c ≤F d → excludes_zero c' d' ≡ true → c' ≤F c → d ≤F d'
+    → (excludes_zero c d ≡ true)
     × AreWithin (between (reciprocal d) (reciprocal c)) (between (reciprocal d') (reciprocal c'))
 reciprocals c d c' d' l e h k =
     elim (excluded c' d' (le_trans _ _ _ h (le_trans _ _ _ l k)) e) [
@@ -213,15 +251,21 @@ reciprocals c d c' d' l e h k =
 -- the reciprocals of a proper interval without 0 are in order
 reciprocal_proper : (c d : Fraction) → c ≤F d → excludes_zero c d ≡ true → reciprocal d ≤F reciprocal c
 reciprocal_proper c d l e =
-    elim (excluded c d l e) [ inl s ↦ reciprocal_anti_positive c d s.0 s.1 l | inr s ↦ reciprocal_anti_negative c d s.0 s.1 l ]
+    elim (excluded c d l e) [
+      | inl s ↦ reciprocal_anti_positive c d s.0 s.1 l
+      | inr s ↦ reciprocal_anti_negative c d
+          s.0 s.1 l
+    ]
 
-quotient_endpoints : (i i' j j' : Interval) → IsProper i → IsProper j → AreWithin i i' → AreWithin j j' → AreWithin (quotient i j) (quotient i' j')
+quotient_endpoints : (i i' j j' : Interval) → IsProper i → IsProper j → AreWithin i i' → AreWithin j j'
+    → AreWithin (quotient i j) (quotient i' j')
 unfolding quotient
 quotient_endpoints i everything j j' p q h k = tt
 quotient_endpoints i (between a' b') j everything p q h k = tt
 quotient_endpoints everything (between a' b') j (between c' d') p q h k = absurd h
 quotient_endpoints (between a b) (between a' b') everything (between c' d') p q h k = absurd k
-quotient_endpoints (between a b) (between a' b') (between c d) (between c' d') p q h k = by_test (excludes_zero c' d') refl
+quotient_endpoints (between a b) (between a' b') (between c d) (between c' d') p q h k =
+    by_test (excludes_zero c' d') refl
   where
     by_test : (t : Bool) → excludes_zero c' d' ≡ t → AreWithin
         (cond (excludes_zero c d) (product (between a b) (between (reciprocal d) (reciprocal c))) everything)
@@ -229,13 +273,16 @@ quotient_endpoints (between a b) (between a' b') (between c d) (between c' d') p
     by_test false e = tt
     by_test true e =
         let r = reciprocals c d c' d' q e k.0 k.1 in
-        rw r.0 (product_endpoints (between a b) (between a' b') (between (reciprocal d) (reciprocal c)) (between (reciprocal d') (reciprocal c')) p
+        rw r.0 (product_endpoints (between a b) (between a' b') (between (reciprocal d) (reciprocal c))
+        (between (reciprocal d') (reciprocal c')) p
         (reciprocal_proper c d q r.0) h r.1)
 
 pub quotient_within : {i i' j j' : Interval} → IsProper i → IsProper j → i ⊆ i' → j ⊆ j' → quotient i j ⊆ quotient i' j'
-quotient_within {i} {i'} {j} {j'} p q h k = record { endpoints = quotient_endpoints i i' j j' p q h.endpoints k.endpoints }
+quotient_within {i} {i'} {j} {j'} p q h k =
+    record { endpoints = quotient_endpoints i i' j j' p q h.endpoints k.endpoints }
 
-pub quotient_holds : (i : Interval) (c d x y : Fraction) → c ≤F d → excludes_zero c d ≡ true → IsMember x i → IsMember y (between c d)
+pub quotient_holds : (i : Interval) (c d x y : Fraction) → c ≤F d → excludes_zero c d ≡ true → IsMember x i
+    → IsMember y (between c d)
     → IsMember (times x (reciprocal y)) (quotient i (between c d))
 unfolding quotient
 quotient_holds everything c d x y l e h k = tt
@@ -244,7 +291,8 @@ quotient_holds (between a b) c d x y l e h k =
     rw e (product_holds (between a b) (between (reciprocal d) (reciprocal c)) x (reciprocal y) h r.1)
 
 -- ---- powers
-even_below : (k : ℕ) (a b x : Fraction) → is_even k ≡ true → a ≤F x → x ≤F b → power x k ≤F larger (power a k) (power b k)
+even_below : (k : ℕ) (a b x : Fraction) → is_even k ≡ true → a ≤F x → x ≤F b
+    → power x k ≤F larger (power a k) (power b k)
 even_below k a b x e ax xb =
     elim (le_total zero_fraction x) [
       | inl h ↦ le_trans _ _ _ (power_mono k x b h xb) (larger_second (power a k) (power b k))
@@ -252,7 +300,8 @@ even_below k a b x e ax xb =
     ]
 
 -- what the least power is a power of
-least_even_keeps : (k : ℕ) (a b : Fraction) (P : Fraction → Type 0) → (zero_fraction ≤F a → P (power a k)) → (b ≤F zero_fraction → P (power b k))
+least_even_keeps : (k : ℕ) (a b : Fraction) (P : Fraction → Type 0) → (zero_fraction ≤F a → P (power a k))
+    → (b ≤F zero_fraction → P (power b k))
     → (a ≤F zero_fraction → zero_fraction ≤F b → P (power zero_fraction k)) → P (least_even a b k)
 unfolding least_even
 least_even_keeps k a b P f g h = by_test (is_at_most zero_fraction a) refl (is_at_most b zero_fraction) refl
@@ -265,7 +314,8 @@ least_even_keeps k a b P f g h = by_test (is_at_most zero_fraction a) refl (is_a
 
 even_above : (k : ℕ) (a b x : Fraction) → is_even k ≡ true → a ≤F x → x ≤F b → least_even a b k ≤F power x k
 even_above k a b x e ax xb =
-    least_even_keeps k a b (λ z. z ≤F power x k) (λ h. power_mono k a x h ax) (λ h. (power_even_falling k x b e xb h).1) (λ _ _. power_even_least k x e)
+    least_even_keeps k a b (λ z. z ≤F power x k) (λ h. power_mono k a x h ax) (λ h. (power_even_falling k x b e xb h).1)
+    (λ _ _. power_even_least k x e)
 
 pub power_holds : (k : ℕ) (i : Interval) (x : Fraction) → IsMember x i → IsMember (power x k) (interval_power i k)
 unfolding interval_power
@@ -277,20 +327,25 @@ power_holds k (between a b) x h = by_test (is_even k) refl
     by_test true e = (even_above k a b x e h.0 h.1, even_below k a b x e h.0 h.1)
     by_test false e = (power_odd_mono k a x e h.0, power_odd_mono k x b e h.1)
 
-power_endpoints : (k : ℕ) (i i' : Interval) → IsProper i → AreWithin i i' → AreWithin (interval_power i k) (interval_power i' k)
+power_endpoints : (k : ℕ) (i i' : Interval) → IsProper i → AreWithin i i'
+    → AreWithin (interval_power i k) (interval_power i' k)
 unfolding interval_power
 power_endpoints k i everything p h = tt
 power_endpoints k everything (between a' b') p h = absurd h
 power_endpoints k (between a b) (between a' b') p h = by_test (is_even k) refl
   where
-    by_test : (t : Bool) → is_even k ≡ t → AreWithin (cond t (between (least_even a b k) (larger (power a k) (power b k))) (between (power a k) (power b k)))
+    by_test : (t : Bool) → is_even k ≡ t
+        → AreWithin (cond t (between (least_even a b k) (larger (power a k) (power b k)))
+        (between (power a k) (power b k)))
         (cond t (between (least_even a' b' k) (larger (power a' k) (power b' k))) (between (power a' k) (power b' k)))
     by_test false e = (power_odd_mono k a' a e h.0, power_odd_mono k b b' e h.1)
     by_test true e =
         let m = endpoints_within a b a' b' p h in (
-          least_even_keeps k a b (λ z. least_even a' b' k ≤F z) (λ _. even_above k a' b' a e m.0.0 m.0.1) (λ _. even_above k a' b' b e m.1.0 m.1.1)
+          least_even_keeps k a b (λ z. least_even a' b' k ≤F z) (λ _. even_above k a' b' a e m.0.0 m.0.1)
+              (λ _. even_above k a' b' b e m.1.0 m.1.1)
               (λ u v. even_above k a' b' zero_fraction e (le_trans _ _ _ m.0.0 u) (le_trans _ _ _ v m.1.1)),
-          larger_keeps (λ z. z ≤F larger (power a' k) (power b' k)) (power a k) (power b k) (even_below k a' b' a e m.0.0 m.0.1)
+          larger_keeps (λ z. z ≤F larger (power a' k) (power b' k)) (power a k) (power b k)
+              (even_below k a' b' a e m.0.0 m.0.1)
               (even_below k a' b' b e m.1.0 m.1.1),
         )
 
@@ -316,7 +371,9 @@ unfolding interval_power
 power_proper k everything p = tt
 power_proper k (between a b) p = by_test (is_even k) refl
   where
-    by_test : (t : Bool) → is_even k ≡ t → IsProper (cond t (between (least_even a b k) (larger (power a k) (power b k))) (between (power a k) (power b k)))
+    by_test : (t : Bool) → is_even k ≡ t
+        → IsProper (cond t (between (least_even a b k) (larger (power a k) (power b k)))
+        (between (power a k) (power b k)))
     by_test true e = le_trans _ _ _ (even_above k a b a e (le_refl a) p) (larger_first (power a k) (power b k))
     by_test false e = power_odd_mono k a b e p
 
@@ -334,7 +391,8 @@ product_smallest a b c d (between e f) p q h =
     record { endpoints = (least_is e _ _ _ _ ac.0 ad.0 bc.0 bd.0, greatest_is f _ _ _ _ ac.1 ad.1 bc.1 bd.1) }
 
 -- what holds each power of a member holds the interval of the powers
-pub power_smallest : (k : ℕ) (a b : Fraction) (j : Interval) → a ≤F b → ((x : Fraction) → IsMember x (between a b) → IsMember (power x k) j)
+pub power_smallest : (k : ℕ) (a b : Fraction) (j : Interval) → a ≤F b
+    → ((x : Fraction) → IsMember x (between a b) → IsMember (power x k) j)
     → interval_power (between a b) k ⊆ j
 unfolding interval_power
 power_smallest k a b everything p h = record { endpoints = tt }
@@ -346,7 +404,9 @@ power_smallest k a b (between c d) p h = record { endpoints = by_test (is_even k
     hb : IsMember (power b k) (between c d)
     hb = h b (p, le_refl b)
 
-    by_test : (t : Bool) → is_even k ≡ t → AreWithin (cond t (between (least_even a b k) (larger (power a k) (power b k))) (between (power a k) (power b k)))
+    by_test : (t : Bool) → is_even k ≡ t
+        → AreWithin (cond t (between (least_even a b k) (larger (power a k) (power b k)))
+        (between (power a k) (power b k)))
         (between c d)
     by_test true e = (
       least_even_keeps k a b (λ z. c ≤F z) (λ _. ha.0) (λ _. hb.0) (λ u v. (h zero_fraction (u, v)).0),
@@ -435,7 +495,8 @@ quotient_proper everything j p q = tt
 quotient_proper (between a b) everything p q = tt
 quotient_proper (between a b) (between c d) p q = by_test (excludes_zero c d) refl
   where
-    by_test : (t : Bool) → excludes_zero c d ≡ t → IsProper (cond t (product (between a b) (between (reciprocal d) (reciprocal c))) everything)
+    by_test : (t : Bool) → excludes_zero c d ≡ t
+        → IsProper (cond t (product (between a b) (between (reciprocal d) (reciprocal c))) everything)
     by_test true e = product_proper (between a b) (between (reciprocal d) (reciprocal c)) p (reciprocal_proper c d q e)
     by_test false e = tt
 
@@ -448,19 +509,22 @@ unfolding negative
 negative_holds everything x h = tt
 negative_holds (between a b) x h = opposite_between a b x h.0 h.1
 
-negative_smallest : (a b : Fraction) (k : Interval) → a ≤F b → ((x : Fraction) → IsMember x (between a b) → IsMember (opposite x) k)
+negative_smallest : (a b : Fraction) (k : Interval) → a ≤F b
+    → ((x : Fraction) → IsMember x (between a b) → IsMember (opposite x) k)
     → negative (between a b) ⊆ k
 unfolding negative
 negative_smallest a b everything p h = record { endpoints = tt }
 negative_smallest a b (between c d) p h = record { endpoints = ((h b (p, le_refl b)).0, (h a (le_refl a, p)).1) }
 
-pub minimum_holds : (i j : Interval) (x y : Fraction) → IsMember x i → IsMember y j → IsMember (smaller x y) (minimum i j)
+pub minimum_holds : (i j : Interval) (x y : Fraction) → IsMember x i → IsMember y j
+    → IsMember (smaller x y) (minimum i j)
 unfolding minimum
 minimum_holds everything j x y h k = tt
 minimum_holds (between a b) everything x y h k = tt
 minimum_holds (between a b) (between c d) x y h k = (smaller_mono a x c y h.0 k.0, smaller_mono x b y d h.1 k.1)
 
-pub maximum_holds : (i j : Interval) (x y : Fraction) → IsMember x i → IsMember y j → IsMember (larger x y) (maximum i j)
+pub maximum_holds : (i j : Interval) (x y : Fraction) → IsMember x i → IsMember y j
+    → IsMember (larger x y) (maximum i j)
 unfolding maximum
 maximum_holds everything j x y h k = tt
 maximum_holds (between a b) everything x y h k = tt
@@ -470,13 +534,15 @@ pub hull_holds_first : (i j : Interval) (x : Fraction) → IsMember x i → IsMe
 unfolding hull
 hull_holds_first everything j x h = tt
 hull_holds_first (between a b) everything x h = tt
-hull_holds_first (between a b) (between c d) x h = (le_trans _ _ _ (smaller_first a c) h.0, le_trans _ _ _ h.1 (larger_first b d))
+hull_holds_first (between a b) (between c d) x h =
+    (le_trans _ _ _ (smaller_first a c) h.0, le_trans _ _ _ h.1 (larger_first b d))
 
 pub hull_holds_second : (i j : Interval) (x : Fraction) → IsMember x j → IsMember x (hull i j)
 unfolding hull
 hull_holds_second everything j x h = tt
 hull_holds_second (between a b) everything x h = tt
-hull_holds_second (between a b) (between c d) x h = (le_trans _ _ _ (smaller_second a c) h.0, le_trans _ _ _ h.1 (larger_second b d))
+hull_holds_second (between a b) (between c d) x h =
+    (le_trans _ _ _ (smaller_second a c) h.0, le_trans _ _ _ h.1 (larger_second b d))
 
 pub clamp_holds : (i : Interval) (x : Fraction) → IsMember x i → IsMember (larger minus_one (smaller x one)) (clamp i)
 unfolding clamp
@@ -484,7 +550,8 @@ clamp_holds everything x h = clamped_in x
 clamp_holds (between a b) x h = (clamped_mono a x h.0, clamped_mono x b h.1)
 
 -- a widened interval holds what lies at most the fraction's size from a member
-pub widen_holds : (e : Fraction) (i : Interval) (x y : Fraction) → IsMember x i → opposite (size e) ≤F y → y ≤F size e → IsMember (plus x y) (widen e i)
+pub widen_holds : (e : Fraction) (i : Interval) (x y : Fraction) → IsMember x i → opposite (size e) ≤F y → y ≤F size e
+    → IsMember (plus x y) (widen e i)
 unfolding widen
 widen_holds e everything x y h l u = tt
 widen_holds e (between a b) x y h l u = (plus_mono a x (opposite (size e)) y h.0 l, plus_mono x b y (size e) h.1 u)
@@ -495,28 +562,36 @@ sum_smallest : (a b c d : Fraction) (j : Interval) → a ≤F b → c ≤F d
     → sum (between a b) (between c d) ⊆ j
 unfolding sum
 sum_smallest a b c d everything p q h = record { endpoints = tt }
-sum_smallest a b c d (between e f) p q h = record { endpoints = ((h a c (le_refl a, p) (le_refl c, q)).0, (h b d (p, le_refl b) (q, le_refl d)).1) }
+sum_smallest a b c d (between e f) p q h =
+    record { endpoints = ((h a c (le_refl a, p) (le_refl c, q)).0, (h b d (p, le_refl b) (q, le_refl d)).1) }
 
 minimum_smallest : (a b c d : Fraction) (j : Interval) → a ≤F b → c ≤F d
     → ((x y : Fraction) → IsMember x (between a b) → IsMember y (between c d) → IsMember (smaller x y) j)
     → minimum (between a b) (between c d) ⊆ j
 unfolding minimum
 minimum_smallest a b c d everything p q h = record { endpoints = tt }
-minimum_smallest a b c d (between e f) p q h = record { endpoints = ((h a c (le_refl a, p) (le_refl c, q)).0, (h b d (p, le_refl b) (q, le_refl d)).1) }
+minimum_smallest a b c d (between e f) p q h =
+    record { endpoints = ((h a c (le_refl a, p) (le_refl c, q)).0, (h b d (p, le_refl b) (q, le_refl d)).1) }
 
 maximum_smallest : (a b c d : Fraction) (j : Interval) → a ≤F b → c ≤F d
     → ((x y : Fraction) → IsMember x (between a b) → IsMember y (between c d) → IsMember (larger x y) j)
     → maximum (between a b) (between c d) ⊆ j
 unfolding maximum
 maximum_smallest a b c d everything p q h = record { endpoints = tt }
-maximum_smallest a b c d (between e f) p q h = record { endpoints = ((h a c (le_refl a, p) (le_refl c, q)).0, (h b d (p, le_refl b) (q, le_refl d)).1) }
+maximum_smallest a b c d (between e f) p q h =
+    record { endpoints = ((h a c (le_refl a, p) (le_refl c, q)).0, (h b d (p, le_refl b) (q, le_refl d)).1) }
 
 -- what holds both intervals holds their hull
-pub hull_smallest : (a b c d : Fraction) (j : Interval) → between a b ⊆ j → between c d ⊆ j → hull (between a b) (between c d) ⊆ j
+pub hull_smallest : (a b c d : Fraction) (j : Interval) → between a b ⊆ j → between c d ⊆ j
+    → hull (between a b) (between c d) ⊆ j
 unfolding hull
 hull_smallest a b c d everything h k = record { endpoints = tt }
 hull_smallest a b c d (between e f) h k = record {
-  endpoints = (smaller_keeps (λ z. e ≤F z) a c h.endpoints.0 k.endpoints.0, larger_keeps (λ z. z ≤F f) b d h.endpoints.1 k.endpoints.1);
+  endpoints = (
+    smaller_keeps (λ z. e ≤F z) a c h.endpoints.0 k.endpoints.0,
+    larger_keeps (λ z. z ≤F f) b d h.endpoints.1
+        k.endpoints.1,
+  );
 }
 
 -- ---- the operations of which all of this is so

@@ -1,10 +1,12 @@
--- Ring identities over ℤ by computation: a polynomial is written as a value of `Poly`, brought to a normal form, and two
--- polynomials with one normal form have one value at all numbers.
-use Rattle.std.proofs.Common.{◌≡◌, ℕ, zero, suc, refl, sym, ap, ◌∙◌, arith, ℤ, pos, negsuc, ◌+ℤ◌, ◌*ℤ◌, ◌-ℤ◌, List, [], ◌∷◌, Bool, true, false}
+-- Ring identities over ℤ by computation: a polynomial is written as a value of `Poly`, brought to a normal form, and
+-- two polynomials with one normal form have one value at all numbers.
+use Rattle.std.proofs.Common.{◌≡◌, ℕ, zero, suc, refl, sym, ap, ◌∙◌, arith, ℤ, pos, negsuc, ◌+ℤ◌, ◌*ℤ◌, ◌-ℤ◌, List, []}
+use Rattle.std.proofs.Common.{◌∷◌, Bool, true, false}
 use lib.Dec.{ltb, leb}
 use borrow.Author.Tests.{ltb-false}
 use lib.IntN.{neg_ℤ, +ℤ_assoc}
-use Rattle.exact_math.proofs.IntLaws.{mul_assoc, mul_left_comm, mul_add, add_mul, add_left_comm, neg-as_mul, one_mul, mul_one, zero_mul, mul_zero, add_zero, zero_add}
+use Rattle.exact_math.proofs.IntLaws.{mul_assoc, mul_left_comm, mul_add, add_mul, add_left_comm, neg-as_mul, one_mul}
+use Rattle.exact_math.proofs.IntLaws.{mul_one, zero_mul, mul_zero, add_zero, zero_add}
 
 infixl 60 ◌⊕◌ ◌⊖◌
 infixl 70 ◌⊗◌
@@ -68,7 +70,12 @@ put (negsuc k) m r = more (negsuc k) m r
 
 abbrev pub add_term : ℤ → List ℕ → Sum → Sum
 add_term c m none = put c m none
-add_term c m (more d n r) = elim (order m n) [ before ↦ put c m (more d n r) | same ↦ put (c +ℤ d) n r | after ↦ more d n (add_term c m r) ]
+add_term c m (more d n r) = elim (order m n) [
+  | before ↦ put c m (more d n r)
+  | same ↦ put (c +ℤ d) n r
+  | after ↦ more d
+      n (add_term c m r)
+]
 
 abbrev pub add : Sum → Sum → Sum
 add none q = q
@@ -113,13 +120,18 @@ product_put_var : (ρ : List ℤ) (i : ℕ) (m : List ℕ) → product ρ (put_v
 unfolding product
 product_put_var ρ i [] = refl
 product_put_var ρ i (j ∷ m) =
-    elim (leb i j) as (λ t. product ρ (elim t [ true ↦ i ∷ (j ∷ m) | false ↦ j ∷ put_var i m ]) ≡ nth ρ i *ℤ (nth ρ j *ℤ product ρ m))
-    [ true ↦ refl | false ↦ ap (λ x. nth ρ j *ℤ x) (product_put_var ρ i m) ∙ mul_left_comm (nth ρ j) (nth ρ i) (product ρ m) ]
+    elim (leb i j) as (λ t. product ρ (elim t [ true ↦ i ∷ (j ∷ m) | false ↦ j ∷ put_var i m ]) ≡ nth ρ
+    i *ℤ (nth ρ j *ℤ product ρ m)) [
+      | true ↦ refl
+      | false ↦ ap (λ x. nth ρ j *ℤ x) (product_put_var ρ i m) ∙ mul_left_comm (nth ρ j) (nth ρ i)
+          (product ρ m)
+    ]
 
 product-join : (ρ : List ℤ) (m n : List ℕ) → product ρ (join m n) ≡ product ρ m *ℤ product ρ n
 unfolding product
 product-join ρ [] n = sym (one_mul (product ρ n))
-product-join ρ (i ∷ m) n = product_put_var ρ i (join m n) ∙ ap (λ x. nth ρ i *ℤ x) (product-join ρ m n) ∙ sym (mul_assoc (nth ρ i) (product ρ m) (product ρ n))
+product-join ρ (i ∷ m) n = product_put_var ρ i (join m n) ∙ ap (λ x. nth ρ i *ℤ x) (product-join ρ m n)
+    ∙ sym (mul_assoc (nth ρ i) (product ρ m) (product ρ n))
 
 total-put : (ρ : List ℤ) (c : ℤ) (m : List ℕ) (r : Sum) → total ρ (put c m r) ≡ c *ℤ product ρ m +ℤ total ρ r
 unfolding total
@@ -133,11 +145,17 @@ total-add_term ρ c m none = total-put ρ c m none
 total-add_term ρ c m (more d n r) = by_order (order m n) refl (total-add_term ρ c m r)
   where
     by_order : (o : Order) → order m n ≡ o → total ρ (add_term c m r) ≡ c *ℤ product ρ m +ℤ total ρ r
-        → total ρ (elim o [ before ↦ put c m (more d n r) | same ↦ put (c +ℤ d) n r | after ↦ more d n (add_term c m r) ]) ≡ c *ℤ product ρ m
+        → total ρ (elim o [
+          | before ↦ put c m (more d n r)
+          | same ↦ put (c +ℤ d) n r
+          | after ↦ more d n
+              (add_term c m r)
+        ]) ≡ c *ℤ product ρ m
         +ℤ (d *ℤ product ρ n +ℤ total ρ r)
     by_order before e rest = total-put ρ c m (more d n r)
     by_order same e rest =
-        total-put ρ (c +ℤ d) n r ∙ ap (λ x. x +ℤ total ρ r) (add_mul c d (product ρ n)) ∙ +ℤ_assoc (c *ℤ product ρ n) (d *ℤ product ρ n) (total ρ r)
+        total-put ρ (c +ℤ d) n r ∙ ap (λ x. x +ℤ total ρ r) (add_mul c d (product ρ n)) ∙ +ℤ_assoc (c *ℤ product ρ n)
+        (d *ℤ product ρ n) (total ρ r)
         ∙ ap (λ x. c *ℤ product ρ x +ℤ (d *ℤ product ρ n +ℤ total ρ r)) (sym (same_order m n e))
     by_order after e rest =
         ap (λ x. d *ℤ product ρ n +ℤ x) rest ∙ add_left_comm (d *ℤ product ρ n) (c *ℤ product ρ m) (total ρ r)
@@ -164,11 +182,13 @@ total-mul : (ρ : List ℤ) (p q : Sum) → total ρ (mul p q) ≡ total ρ p *�
 unfolding total
 total-mul ρ none q = sym (zero_mul (total ρ q))
 total-mul ρ (more c m r) q =
-    total-add ρ (scale c m q) (mul r q) ∙ (λ i. total-scale ρ c m q i +ℤ total-mul ρ r q i) ∙ sym (add_mul (c *ℤ product ρ m) (total ρ r) (total ρ q))
+    total-add ρ (scale c m q) (mul r q) ∙ (λ i. total-scale ρ c m q i +ℤ total-mul ρ r q i)
+    ∙ sym (add_mul (c *ℤ product ρ m) (total ρ r) (total ρ q))
 
 total-negated : (ρ : List ℤ) (p : Sum) → total ρ (scale (negsuc 0) [] p) ≡ neg_ℤ (total ρ p)
 unfolding product
-total-negated ρ p = total-scale ρ (negsuc 0) [] p ∙ ap (λ x. x *ℤ total ρ p) (mul_one (negsuc 0)) ∙ sym (neg-as_mul (total ρ p))
+total-negated ρ p = total-scale ρ (negsuc 0) [] p ∙ ap (λ x. x *ℤ total ρ p) (mul_one (negsuc 0))
+    ∙ sym (neg-as_mul (total ρ p))
 
 pub total-normal : (ρ : List ℤ) (p : Poly) → total ρ (normal p) ≡ value ρ p
 unfolding total product

@@ -45,7 +45,8 @@ times_cong_z a b c d p q r s e f =
 pub times_cong : {a b c d : Fraction} → a ≈ b → c ≈ d → times a c ≈ times b d
 unfolding times
 times_cong {a} {b} {c} {d} e f =
-    by_dens (times a c) (times b d) (den a *ℤ den c) (den b *ℤ den d) (den_product a.below c.below) (den_product b.below d.below)
+    by_dens (times a c) (times b d) (den a *ℤ den c) (den b *ℤ den d) (den_product a.below c.below)
+    (den_product b.below d.below)
     (times_cong_z a.num b.num c.num d.num (den a) (den b) (den c) (den d) e.cross f.cross)
 
 -- ---- laws in three variables, by the ring of whole numbers
@@ -88,9 +89,12 @@ bottom_is a b c (at zero) = refl
 bottom_is a b c (at (suc zero)) = refl
 bottom_is a b c (at (suc (suc i))) = refl
 bottom_is a b c (lit n) = refl
-bottom_is a b c (p ⊕ q) = den_product (of_three a b c p).below (of_three a b c q).below ∙ (λ i. bottom_is a b c p i *ℤ bottom_is a b c q i)
-bottom_is a b c (p ⊖ q) = den_product (of_three a b c p).below (of_three a b c q).below ∙ (λ i. bottom_is a b c p i *ℤ bottom_is a b c q i)
-bottom_is a b c (p ⊗ q) = den_product (of_three a b c p).below (of_three a b c q).below ∙ (λ i. bottom_is a b c p i *ℤ bottom_is a b c q i)
+bottom_is a b c (p ⊕ q) = den_product (of_three a b c p).below (of_three a b c q).below
+    ∙ (λ i. bottom_is a b c p i *ℤ bottom_is a b c q i)
+bottom_is a b c (p ⊖ q) = den_product (of_three a b c p).below (of_three a b c q).below
+    ∙ (λ i. bottom_is a b c p i *ℤ bottom_is a b c q i)
+bottom_is a b c (p ⊗ q) = den_product (of_three a b c p).below (of_three a b c q).below
+    ∙ (λ i. bottom_is a b c p i *ℤ bottom_is a b c q i)
 bottom_is a b c (minus p) = bottom_is a b c p
 
 top_is : (a b c : Fraction) (p : Poly) → (of_three a b c p).num ≡ value (flat a b c) (top p)
@@ -104,7 +108,8 @@ top_is a b c (p ⊖ q) = λ i. top_is a b c p i *ℤ bottom_is a b c q i +ℤ ne
 top_is a b c (p ⊗ q) = λ i. top_is a b c p i *ℤ top_is a b c q i
 top_is a b c (minus p) = ap neg_ℤ (top_is a b c p)
 
-pub law : (a b c : Fraction) (p q : Poly) → normal (top p ⊗ bottom q) ≡ normal (top q ⊗ bottom p) → of_three a b c p ≈ of_three a b c q
+pub law : (a b c : Fraction) (p q : Poly) → normal (top p ⊗ bottom q) ≡ normal (top q ⊗ bottom p)
+    → of_three a b c p ≈ of_three a b c q
 law a b c p q e = record {
   cross = (λ i. top_is a b c p i *ℤ bottom_is a b c q i) ∙ ring (flat a b c) (top p ⊗ bottom q) (top q ⊗ bottom p) e ∙
       (λ i. sym (top_is a b c q) i *ℤ sym (bottom_is a b c p) i);

@@ -1,5 +1,6 @@
 -- Exact fractions: an unbounded whole number over a positive one, ordered by cross products.
-use Rattle.std.specs.Prelude.{◌≡◌, ℕ, zero, suc, ◌+◌, ◌*◌, ◌/◌, Bool, true, not, cond, unsigned_abs, ℤ, pos, negsuc, ◌+ℤ◌, ◌*ℤ◌, ◌≤ℤ◌, ◌<ℤ◌}
+use Rattle.std.specs.Prelude.{◌≡◌, ℕ, zero, suc, ◌+◌, ◌*◌, ◌/◌, Bool, true, not, cond, unsigned_abs, ℤ, pos, negsuc}
+use Rattle.std.specs.Prelude.{◌+ℤ◌, ◌*ℤ◌, ◌≤ℤ◌, ◌<ℤ◌}
 use lib.IntN.{neg_ℤ}
 use lib.Signed.{le_z}
 

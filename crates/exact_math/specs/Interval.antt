@@ -1,6 +1,7 @@
 -- Intervals of fractions, and the operations that give the smallest interval which holds the result for all members.
 use Rattle.std.specs.Prelude.{ℕ, Bool, true, cond, pos, negsuc}
-use Rattle.exact_math.specs.Fraction.{Fraction, ◌≤F◌, plus, opposite, size, times, is_at_most, smaller, larger, reciprocal, power as fraction_power, is_even}
+use Rattle.exact_math.specs.Fraction.{Fraction, ◌≤F◌, plus, opposite, size, times, is_at_most, smaller, larger}
+use Rattle.exact_math.specs.Fraction.{reciprocal, power as fraction_power, is_even}
 use lib.Signed.{lt_z}
 
 pub data Interval : Type 0 where
@@ -45,7 +46,8 @@ greatest p q r s = larger (larger p q) (larger r s)
 unfoldable pub product : Interval → Interval → Interval
 product everything j = everything
 product (between a b) everything = everything
-product (between a b) (between c d) = between (least (times a c) (times a d) (times b c) (times b d)) (greatest (times a c) (times a d) (times b c) (times b d))
+product (between a b) (between c d) = between (least (times a c) (times a d) (times b c) (times b d))
+    (greatest (times a c) (times a d) (times b c) (times b d))
 
 unfoldable pub minimum : Interval → Interval → Interval
 minimum everything j = everything
@@ -87,7 +89,8 @@ excludes_zero c d = cond (lt_z (pos 0) c.num) true (lt_z d.num (pos 0))
 unfoldable pub quotient : Interval → Interval → Interval
 quotient everything j = everything
 quotient (between a b) everything = everything
-quotient (between a b) (between c d) = cond (excludes_zero c d) (product (between a b) (between (reciprocal d) (reciprocal c))) everything
+quotient (between a b) (between c d) = cond (excludes_zero c d)
+    (product (between a b) (between (reciprocal d) (reciprocal c))) everything
 
 -- the least of the k-th powers for an even k
 unfoldable pub least_even : Fraction → Fraction → ℕ → Fraction

@@ -26,4 +26,5 @@ one_over n = record { num = pos 1; below = n }
 -- 1 - u r 0 (1 - u r 1 (.. (1 +- e u r n))), with +e for an even n and -e for an odd one
 unfoldable pub inner : Fraction → Fraction → (ℕ → Fraction) → ℕ → Fraction
 inner e u r zero = plus (record { num = pos 1; below = 0 }) (times e (times u (r 0)))
-inner e u r (suc n) = plus (record { num = pos 1; below = 0 }) (opposite (times (times u (r 0)) (inner (opposite e) u (λ k. r (suc k)) n)))
+inner e u r (suc n) = plus (record { num = pos 1; below = 0 })
+    (opposite (times (times u (r 0)) (inner (opposite e) u (λ k. r (suc k)) n)))

@@ -26,12 +26,14 @@ none_early (undecided_at u) h = λ e t. h e
 none_early (Void s) h = tt
 
 -- a failure at a whole day, where it is at the year of that alone, is not at the year
-pub day_not_of_year : {E : Type 0} (shown : E → Interval) (bits : ℕ) (d : ℤ) (e : E) (f : Fail) → 36 ≤ bits → bits ≤ 56 → IsValueDay d
+pub day_not_of_year : {E : Type 0} (shown : E → Interval) (bits : ℕ) (d : ℤ) (e : E) (f : Fail) → 36 ≤ bits → bits ≤ 56
+    → IsValueDay d
     → ((r : Reach) → Narrow shown (limits_of bits) r (integer d) e)
     → IsYearUndecidedFor (shown e) f → IsNoEarlyYear f
 day_not_of_year shown bits d e f p q h n o =
     let y = year_small d h in
-    none_early f (closed_year (shown e) (year_of_day d) f (year_enclosed shown bits d e p q h (n _)) (omega (arith, ints, y.0, y.1)) o)
+    none_early f (closed_year (shown e) (year_of_day d) f (year_enclosed shown bits d e p q h (n _))
+    (omega (arith, ints, y.0, y.1)) o)
 
 -- nor is an undecided rounding, or a void
 pub round_not_of_year : (i : Interval) (f : Fail) → IsUndecidedFloor i Round f → IsNoEarlyYear f
@@ -42,12 +44,14 @@ pub void_not_of_year : (f : Fail) → f ≡ Void Year → IsNoEarlyYear f
 void_not_of_year f e = rw e tt
 
 -- a value of the sun's longitude is one that an answer may have
-pub sun_is_value : (d : ℤ) (r : Result ℤ Fail) (b a : ℕ) → ((w : World) → 40 ≤ w.depth → Leads w Exact (sun_in_thousandths_of d) b a r) → IfOk r IsFactValue
+pub sun_is_value : (d : ℤ) (r : Result ℤ Fail) (b a : ℕ)
+    → ((w : World) → 40 ≤ w.depth → Leads w Exact (sun_in_thousandths_of d) b a r) → IfOk r IsFactValue
 sun_is_value d (Ok v) b a h = let z = sun_value (at_depth 40) d v (leads_value (h (at_depth 40) (omega arith))) in
     (omega (arith, ints, z.0), omega (arith, ints, z.1))
 sun_is_value d (Err f) b a h = tt
 
 -- so is that of ΔT
-pub dt_is_value : (d : ℤ) (r : Result ℤ Fail) (b a : ℕ) → IsValueDay d → ((w : World) → 40 ≤ w.depth → Leads w Exact (dt_of d) b a r) → IfOk r IsFactValue
+pub dt_is_value : (d : ℤ) (r : Result ℤ Fail) (b a : ℕ) → IsValueDay d
+    → ((w : World) → 40 ≤ w.depth → Leads w Exact (dt_of d) b a r) → IfOk r IsFactValue
 dt_is_value d (Ok v) b a l h = dt_value (at_depth 40) d v l (leads_value (h (at_depth 40) (omega arith)))
 dt_is_value d (Err f) b a l h = tt

@@ -1,4 +1,5 @@
--- The first day of Nisan: how many tests it makes, where the day of the equinox lies, and which failures are at the year.
+-- The first day of Nisan: how many tests it makes, where the day of the equinox lies, and which failures are at the
+-- year.
 use Rattle.std.specs.Prelude.{ℕ, ◌+◌, ◌*◌, ℤ, pos, Result, Ok, Err, IfOk}
 use Rattle.std.proofs.Common.{arith}
 use Rattle.std.proofs.lemmas.Int.{ints}
@@ -9,7 +10,8 @@ use Rattle.book_model.specs.declared.site.Site.TheVariants.{DayFloor}
 use Rattle.book_model.specs.numbers.Expressions.{Expression, World, integer}
 use Rattle.book_model.specs.numbers.Relations.{Within}
 use Rattle.book_model.specs.programs.Leading.{Leads, Exact, leaf}
-use Rattle.book_model.specs.programs.Programs.{answer, cell, integers, AtMost, answer_at_most, cell_at_most, compare_at_most}
+use Rattle.book_model.specs.programs.Programs.{answer, cell, integers, AtMost, answer_at_most, cell_at_most}
+use Rattle.book_model.specs.programs.Programs.{compare_at_most}
 use Rattle.book_model.specs.sky.Horizon.{sunset_of, dusk_of, depression_of}
 use Rattle.book_model.specs.sky.Nisan.{is_before_sunset_of, nisan_by_of, nisan_of, nisan_start}
 use Rattle.book_model.specs.sky.Sun.{sun_from_of}
@@ -38,11 +40,13 @@ unfolding nisan_of nisan_by_of
 nisan_few p d = at_most_more (324 + (1 + (133 + (845 + (151 + 46 * 151))))) 99999 (omega arith)
     (at_most_bind 324 (1 + (133 + (845 + (151 + 46 * 151)))) (from_few _ _)
     (λ x. at_most_bind 1 (133 + (845 + (151 + 46 * 151))) (cell_at_most (λ q. answer_at_most))
-    (λ f. at_most_bind 133 (845 + (151 + 46 * 151)) (before_few p x f) (λ before. visibility_from_few p (nisan_start f before)))))
+    (λ f. at_most_bind 133 (845 + (151 + 46 * 151)) (before_few p x f)
+    (λ before. visibility_from_few p (nisan_start f before)))))
 
 -- ---- the day of the equinox
 pub equinox_near : {E : Type 0} {shown : E → Interval} (w : World) (d : ℤ) {a b e : ℕ} {y : E} (r : Result ℤ Fail) →
-    Leads w (Within shown w) (next_equinox_of d) a b (Ok y) → Leads w Exact (cell DayFloor integers (leaf w (next_equinox_of d)) answer) b e r
+    Leads w (Within shown w) (next_equinox_of d) a b (Ok y)
+    → Leads w Exact (cell DayFloor integers (leaf w (next_equinox_of d)) answer) b e r
     → IfOk r IsEquinoxDay
 unfolding next_equinox_of
 equinox_near w d (Ok q) h f =

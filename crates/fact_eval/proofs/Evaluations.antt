@@ -12,7 +12,8 @@ use Rattle.book_model.specs.programs.Programs.{Program, run, AtMost, MakesTest}
 use Rattle.book_model.proofs.Leads.{leads_value, leads_void_at, leads_stop_at, few_tests}
 use Rattle.fact_eval.proofs.Nearness.{near_open, sides_proper, site_allows}
 
-pub true_of_leads : (f : Fact) (v : ℤ) (p : Program ℤ) (a : ℕ) → program_of f ≡ p → ((w : World) → 40 ≤ w.depth → Leads w Exact p 0 a (Ok v)) → IsTrueWith f v
+pub true_of_leads : (f : Fact) (v : ℤ) (p : Program ℤ) (a : ℕ) → program_of f ≡ p
+    → ((w : World) → 40 ≤ w.depth → Leads w Exact p 0 a (Ok v)) → IsTrueWith f v
 unfolding run_of
 true_of_leads f v p a e h = record { at_each_depth = λ n d. rw e (leads_value (h (at_depth n) d)) }
 
@@ -25,7 +26,8 @@ void_of_leads f s p a e h = record { at_each_depth = λ n d. rw e (leads_void_at
 turn_is : (number turn : ℕ) → turn ≡ min (0 + number) (2 ^ 32 - 1) → number ≤ 99999 → number ≡ turn
 turn_is number turn e h = omega arith
 
-near_run : (w : World) (p : Program ℤ) (a : ℕ) (u : Undecided) → AtMost 99999 p → AreClose u → Leads w (Exact {A = ℤ}) p 0 a (Err (undecided_at u))
+near_run : (w : World) (p : Program ℤ) (a : ℕ) (u : Undecided) → AtMost 99999 p → AreClose u
+    → Leads w (Exact {A = ℤ}) p 0 a (Err (undecided_at u))
     → MakesNearTest (run w p) u
 near_run w p a u m c h =
     let s = leads_stop_at h in
@@ -33,7 +35,8 @@ near_run w p a u m c h =
     record {
       sides = s.sides;
       makes = subst (λ t. MakesTest (run w p) t u.site s.sides) k s.makes;
-      near = near_open u.lo u.hi s.sides (site_allows u.site, c) (sides_proper w p s.number u.site s.sides s.makes) s.open_there;
+      near = near_open u.lo u.hi s.sides (site_allows u.site, c) (sides_proper w p s.number u.site s.sides s.makes)
+          s.open_there;
     }
 
 pub near_of_leads : (f : Fact) (u : Undecided) (p : Program ℤ) (a : ℕ) → program_of f ≡ p → AtMost 99999 p → AreClose u

@@ -7,7 +7,8 @@ use Rattle.book_model.specs.declared.fact.Kind.TheVariants as kinds
 use Rattle.book_model.specs.declared.fact.Place.{Place}
 use Rattle.book_model.specs.declared.fact.TheConstants.{FIRST_DAY, LAST_DAY}
 use Rattle.book_model.specs.declared.site.Site.{Site}
-use Rattle.book_model.specs.programs.Programs.{AtMost, MakesTest, Program, Sides, bind, answer_at_most, cell_at_most, void_at_most}
+use Rattle.book_model.specs.programs.Programs.{AtMost, MakesTest, Program, Sides, bind, answer_at_most, cell_at_most}
+use Rattle.book_model.specs.programs.Programs.{void_at_most}
 use Rattle.book_model.specs.numbers.Expressions.{Expression, integer}
 use Rattle.book_model.specs.sky.Correction.{is_between, rounded_of}
 use Rattle.book_model.specs.sky.Facts.{at_depth, formula_of, program_of, run_of}
@@ -25,7 +26,8 @@ use Rattle.moon_core.proofs.NewYears.{french_year_few, nowruz_few}
 use Rattle.moon_core.proofs.PhaseDays.{phase_day_few}
 use Rattle.moon_rise.proofs.Risings.{moonrise_few, moonset_few}
 use Rattle.crescent.proofs.Horizons.{bahai_year_few, sunset_in_minutes_few}
-use Rattle.hindu_sky.proofs.HinduRuns.{sign_at_sunset_few, year_at_sunset_few, sankranti_few, tithi_few, sign_before_few, sign_after_few, calendar_year_few}
+use Rattle.hindu_sky.proofs.HinduRuns.{sign_at_sunset_few, year_at_sunset_few, sankranti_few, tithi_few}
+use Rattle.hindu_sky.proofs.HinduRuns.{sign_before_few, sign_after_few, calendar_year_few}
 use Rattle.crescent.proofs.Crescents.{phasis_few}
 use Rattle.fact_eval.proofs.MoonFacts.{new_moon_before_few, new_moon_from_few}
 use Rattle.fact_eval.proofs.Solstices.{solstice_few, major_few}
@@ -33,7 +35,8 @@ use Rattle.fact_eval.proofs.Equinoxes.{nisan_few}
 use Rattle.fact_eval.proofs.TermDays.{term_day_few}
 
 -- a formula at the location of a place, if it has one
-located_few : (o : Option Location) (formula : Location → Program ℤ) → ((l : Location) → AtMost 99999 (formula l)) → AtMost 99999 (located o formula)
+located_few : (o : Option Location) (formula : Location → Program ℤ) → ((l : Location) → AtMost 99999 (formula l))
+    → AtMost 99999 (located o formula)
 unfolding located
 located_few None formula few = void_at_most
 located_few (Some l) formula few = few l
@@ -45,7 +48,8 @@ distance_few x = at_most_bind 1 0 (centuries_few x) (λ c. answer_at_most)
 
 kilometres_few : (d : ℤ) → AtMost 99999 (bind (distance_of (integer d)) rounded_of)
 unfolding rounded_of
-kilometres_few d = at_most_more 2 99999 (omega arith) (at_most_bind 1 1 (distance_few (integer d)) (λ x. cell_at_most (λ q. answer_at_most)))
+kilometres_few d = at_most_more 2 99999 (omega arith)
+    (at_most_bind 1 1 (distance_few (integer d)) (λ x. cell_at_most (λ q. answer_at_most)))
 
 -- the formula of each kind of fact
 pub formula_few : (kind : Kind) (place : Place) (d : ℤ) → AtMost 99999 (formula_of kind place d)
@@ -72,19 +76,23 @@ formula_few kinds.NewMoon place d = phase_day_few (pos 0) d
 formula_few kinds.FirstQuarter place d = phase_day_few (pos 90) d
 formula_few kinds.FullMoon place d = phase_day_few (pos 180) d
 formula_few kinds.LastQuarter place d = phase_day_few (pos 270) d
-formula_few kinds.Sunset place d = located_few (location_of place) (λ l. sunset_in_minutes_of place l d) (λ l. sunset_in_minutes_few place l d)
+formula_few kinds.Sunset place d = located_few (location_of place) (λ l. sunset_in_minutes_of place l d)
+    (λ l. sunset_in_minutes_few place l d)
 formula_few kinds.Distance place d = kilometres_few d
 formula_few kinds.Moonrise place d =
-    located_few (location_of place) (λ l. moonrise_of place l d) (λ l. at_most_more 606 99999 (omega arith) (moonrise_few place l d))
+    located_few (location_of place) (λ l. moonrise_of place l d)
+    (λ l. at_most_more 606 99999 (omega arith) (moonrise_few place l d))
 formula_few kinds.Moonset place d =
-    located_few (location_of place) (λ l. moonset_of place l d) (λ l. at_most_more 606 99999 (omega arith) (moonset_few place l d))
+    located_few (location_of place) (λ l. moonset_of place l d)
+    (λ l. at_most_more 606 99999 (omega arith) (moonset_few place l d))
 formula_few kinds.FrenchYear place d = french_year_few d
 formula_few kinds.Nisan place d = located_few (location_of place) (λ l. nisan_of l d) (λ l. nisan_few l d)
 
 -- and that of each fact, which is void on other days
 pub program_few : (f : Fact) → AtMost 99999 (program_of f)
 unfolding program_of
-program_few f = few_of_two 99999 (is_between FIRST_DAY LAST_DAY f.day) _ _ (formula_few f.kind f.place f.day) void_at_most
+program_few f = few_of_two 99999 (is_between FIRST_DAY LAST_DAY f.day) _ _ (formula_few f.kind f.place f.day)
+    void_at_most
 
 -- so no test of its run at a depth has a greater number
 pub run_few : (f : Fact) (n k : ℕ) (s : Site) (i : Sides) → MakesTest (run_of n f) k s i → k ≤ 99999

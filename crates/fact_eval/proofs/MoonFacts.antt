@@ -21,11 +21,13 @@ use Rattle.moon_core.proofs.PhaseRanges.{moon_before_few, moon_from_few, new_moo
 -- ---- how many tests
 pub new_moon_before_few : (place : Place) (d : ℤ) → AtMost 99999 (new_moon_before_of place d)
 unfolding new_moon_before_of
-new_moon_before_few place d = at_most_more 1026 99999 (omega arith) (at_most_bind 25 1001 (moon_before_few (midnight_of place d)) (day_few place))
+new_moon_before_few place d = at_most_more 1026 99999 (omega arith)
+    (at_most_bind 25 1001 (moon_before_few (midnight_of place d)) (day_few place))
 
 pub new_moon_from_few : (place : Place) (d : ℤ) → AtMost 99999 (new_moon_from_of place d)
 unfolding new_moon_from_of
-new_moon_from_few place d = at_most_more 1026 99999 (omega arith) (at_most_bind 25 1001 (moon_from_few (midnight_of place d)) (day_few place))
+new_moon_from_few place d = at_most_more 1026 99999 (omega arith)
+    (at_most_bind 25 1001 (moon_from_few (midnight_of place d)) (day_few place))
 
 -- ---- values
 moon_before_between : (w : World) (x m : Expression) → outcome (run w (moon_before_of x)) ≡ valued m
@@ -44,27 +46,33 @@ moon_from_between w x m e =
     let k = parts w (walk_of 6 x _) _ m n.then in
     new_moon_between w _ m k.then
 
-before_value : (w : World) (place : Place) (d v : ℤ) → outcome (run w (new_moon_before_of place d)) ≡ valued v → IsFactValue v
+before_value : (w : World) (place : Place) (d v : ℤ) → outcome (run w (new_moon_before_of place d)) ≡ valued v
+    → IsFactValue v
 unfolding new_moon_before_of
 before_value w place d v e =
     let m = parts w (moon_before_of (midnight_of place d)) _ v e in
-    let b = day_between w place (TABLE_START -ℤ pos 200) (TABLE_END +ℤ pos 200) v m.part (moon_before_between w (midnight_of place d) m.part m.first) m.then in
+    let b = day_between w place (TABLE_START -ℤ pos 200) (TABLE_END +ℤ pos 200) v m.part
+    (moon_before_between w (midnight_of place d) m.part m.first) m.then in
     (omega (arith, ints, b.0), omega (arith, ints, b.1))
 
-from_value : (w : World) (place : Place) (d v : ℤ) → outcome (run w (new_moon_from_of place d)) ≡ valued v → IsFactValue v
+from_value : (w : World) (place : Place) (d v : ℤ) → outcome (run w (new_moon_from_of place d)) ≡ valued v
+    → IsFactValue v
 unfolding new_moon_from_of
 from_value w place d v e =
     let m = parts w (moon_from_of (midnight_of place d)) _ v e in
-    let b = day_between w place (TABLE_START -ℤ pos 200) (TABLE_END +ℤ pos 200) v m.part (moon_from_between w (midnight_of place d) m.part m.first) m.then in
+    let b = day_between w place (TABLE_START -ℤ pos 200) (TABLE_END +ℤ pos 200) v m.part
+    (moon_from_between w (midnight_of place d) m.part m.first) m.then in
     (omega (arith, ints, b.0), omega (arith, ints, b.1))
 
 -- the same of the calls that compute them
 pub new_moon_before_is_value : (place : Place) (d : ℤ) (r : Result ℤ Fail) (b a : ℕ)
     → ((w : World) → 40 ≤ w.depth → Leads w Exact (new_moon_before_of place d) b a r) → IfOk r IsFactValue
-new_moon_before_is_value place d (Ok v) b a h = before_value (at_depth 40) place d v (leads_value (h (at_depth 40) (omega arith)))
+new_moon_before_is_value place d (Ok v) b a h = before_value (at_depth 40) place d v
+    (leads_value (h (at_depth 40) (omega arith)))
 new_moon_before_is_value place d (Err f) b a h = tt
 
 pub new_moon_from_is_value : (place : Place) (d : ℤ) (r : Result ℤ Fail) (b a : ℕ)
     → ((w : World) → 40 ≤ w.depth → Leads w Exact (new_moon_from_of place d) b a r) → IfOk r IsFactValue
-new_moon_from_is_value place d (Ok v) b a h = from_value (at_depth 40) place d v (leads_value (h (at_depth 40) (omega arith)))
+new_moon_from_is_value place d (Ok v) b a h = from_value (at_depth 40) place d v
+    (leads_value (h (at_depth 40) (omega arith)))
 new_moon_from_is_value place d (Err f) b a h = tt

@@ -1,23 +1,33 @@
 -- A test that the code leaves undecided is near: its sides lie within the bounds, and so does a threshold.
-use Rattle.std.specs.Prelude.{◌≡◌, ℕ, suc, ◌-◌, ◌^◌, ◌≤◌, ◌-ℤ◌, ℤ, pos, ◌+ℤ◌, ◌*ℤ◌, ◌≤ℤ◌, Option, Some, None, Bool, true, false, refl}
+use Rattle.std.specs.Prelude.{◌≡◌, ℕ, suc, ◌-◌, ◌^◌, ◌≤◌, ◌-ℤ◌, ℤ, pos, ◌+ℤ◌, ◌*ℤ◌, ◌≤ℤ◌, Option, Some, None, Bool}
+use Rattle.std.specs.Prelude.{true, false, refl}
 use Rattle.std.proofs.Common.{[], ◌∷◌, arith}
 use Rattle.std.proofs.lemmas.Int.{ints, by_lt_z}
 use Rattle.std.specs.Ordering.{int_eq}
 use Rattle.std.proofs.lemmas.Bool.Decides.{Decides-int_eq}
 use Rattle.book_model.specs.Fraction.{Fraction, whole, ◌≤F◌, ◌≈◌}
 use Rattle.book_model.specs.Interval.{Interval, everything, between, IsProper, AreWithin, ◌⊆◌, hull}
-use Rattle.book_model.proofs.Fractions.{le_trans, lt_le_trans, le_lt_trans, smaller_first, smaller_second, larger_first, larger_second}
+use Rattle.book_model.proofs.Fractions.{le_trans, lt_le_trans, le_lt_trans, smaller_first, smaller_second, larger_first}
+use Rattle.book_model.proofs.Fractions.{larger_second}
 use Rattle.book_model.proofs.Bounds.{◌≼◌, known, ◌⊠◌, le_by, pos_nonneg}
 use Rattle.book_model.proofs.Ring.{at, lit, ◌⊗◌}
 use Rattle.book_model.proofs.Intervals.{within_trans, within_everything}
 use Rattle.book_model.proofs.Same.{le_of_same, ge_of_same}
 use Rattle.book_model.specs.declared.site.Site.{Site}
-use Rattle.book_model.specs.declared.site.Site.TheVariants.{Year, Zone, SunWrap, MoonWrap, PhaseWrap, PhasePick, MoonNumber, MoonWalk, StepWrap, StartFloor, DayTest, DayFloor, TermFloor, Search, BisectEnd, Bisect, Offset, Settle, Round, Crescent, Sidereal, Rise}
+use Rattle.book_model.specs.declared.site.Site.TheVariants.{Year, Zone, SunWrap, MoonWrap, PhaseWrap, PhasePick}
+use Rattle.book_model.specs.declared.site.Site.TheVariants.{MoonNumber, MoonWalk, StepWrap, StartFloor, DayTest}
+use Rattle.book_model.specs.declared.site.Site.TheVariants.{DayFloor, TermFloor, Search, BisectEnd, Bisect, Offset}
+use Rattle.book_model.specs.declared.site.Site.TheVariants.{Settle, Round, Crescent, Sidereal, Rise}
 use Rattle.book_model.specs.numbers.Expressions.{World, value}
 use Rattle.book_model.specs.sky.Facts.{LiesFrom, HasThreshold, AreNear, near_cell, near_comparison}
 use Rattle.book_model.specs.programs.Widths.{most_apart}
-use Rattle.book_model.specs.programs.Leading.{units_of_56, AreNoBounds, AreEndpoints, bounds, no_bounds, IsUndecidedCell, between_cells, too_far, IsOpen, open_cell, undecided_comparison}
-use Rattle.book_model.specs.programs.Programs.{Grid, integers, multiples, years, cell_of, threshold, when, cell_at, Program, answer, void, cell, compare, Sides, one_side, two_sides, Run, after_cell, after_compare, run, compare_at, MakesTest, here_decided, here_undecided, later}
+use Rattle.book_model.specs.programs.Leading.{units_of_56, AreNoBounds, AreEndpoints, bounds, no_bounds}
+use Rattle.book_model.specs.programs.Leading.{IsUndecidedCell, between_cells, too_far, IsOpen, open_cell}
+use Rattle.book_model.specs.programs.Leading.{undecided_comparison}
+use Rattle.book_model.specs.programs.Programs.{Grid, integers, multiples, years, cell_of, threshold, when, cell_at}
+use Rattle.book_model.specs.programs.Programs.{Program, answer, void, cell, compare, Sides, one_side, two_sides, Run}
+use Rattle.book_model.specs.programs.Programs.{after_cell, after_compare, run, compare_at, MakesTest, here_decided}
+use Rattle.book_model.specs.programs.Programs.{here_undecided, later}
 use Rattle.book_model.proofs.Calendars.{first_day_rises}
 use Rattle.book_model.proofs.Cells.{cells_cut}
 use Rattle.book_model.proofs.Nesting.{cell_mono}
@@ -28,28 +38,34 @@ abbrev pub AreProper : Sides → Type 0
 AreProper (one_side g i) = IsProper i
 AreProper (two_sides i j) = IsProper i × IsProper j
 
-proper_cell : {A : Type 0} (s t : Site) (g : Grid) (i : Interval) (o : Option ℤ) (next : ℤ → Run A) (k : ℕ) (j : Sides) → IsProper i →
+proper_cell : {A : Type 0} (s t : Site) (g : Grid) (i : Interval) (o : Option ℤ) (next : ℤ → Run A) (k : ℕ) (j : Sides)
+    → IsProper i →
     ((q : ℤ) (l : ℕ) → MakesTest (next q) l t j → AreProper j) → MakesTest (after_cell s g i o next) k t j → AreProper j
 unfolding after_cell
 proper_cell s t g i None next k j p h here_undecided = p
 proper_cell s t g i (Some q) next k j p h here_decided = p
 proper_cell s t g i (Some q) next k j p h (later {k = l} m) = h q l m
 
-proper_compare : {A : Type 0} (s t : Site) (i l : Interval) (o : Option Bool) (next : Bool → Run A) (k : ℕ) (j : Sides) → IsProper i → IsProper l →
-    ((q : Bool) (m : ℕ) → MakesTest (next q) m t j → AreProper j) → MakesTest (after_compare s i l o next) k t j → AreProper j
+proper_compare : {A : Type 0} (s t : Site) (i l : Interval) (o : Option Bool) (next : Bool → Run A) (k : ℕ) (j : Sides)
+    → IsProper i → IsProper l →
+    ((q : Bool) (m : ℕ) → MakesTest (next q) m t j → AreProper j) → MakesTest (after_compare s i l o next) k t j
+    → AreProper j
 unfolding after_compare
 proper_compare s t i l None next k j p r h here_undecided = (p, r)
 proper_compare s t i l (Some q) next k j p r h here_decided = (p, r)
 proper_compare s t i l (Some q) next k j p r h (later {k = x} m) = h q x m
 
-pub sides_proper : {A : Type 0} (w : World) (p : Program A) (k : ℕ) (s : Site) (j : Sides) → MakesTest (run w p) k s j → AreProper j
+pub sides_proper : {A : Type 0} (w : World) (p : Program A) (k : ℕ) (s : Site) (j : Sides) → MakesTest (run w p) k s j
+    → AreProper j
 unfolding run
 sides_proper w (answer a) k s j m = elim m [ ]
 sides_proper w (void t) k s j m = elim m [ ]
 sides_proper w (cell t g x next) k s j m =
-    proper_cell t s g (value w x) (cell_at g (value w x)) (λ q. run w (next q)) k j (value_proper w x) (λ q l z. sides_proper w (next q) l s j z) m
+    proper_cell t s g (value w x) (cell_at g (value w x)) (λ q. run w (next q)) k j (value_proper w x)
+    (λ q l z. sides_proper w (next q) l s j z) m
 sides_proper w (compare t x y next) k s j m =
-    proper_compare t s (value w x) (value w y) (compare_at (value w x) (value w y)) (λ q. run w (next q)) k j (value_proper w x) (value_proper w y)
+    proper_compare t s (value w x) (value w y) (compare_at (value w x) (value w y)) (λ q. run w (next q)) k j
+    (value_proper w x) (value_proper w y)
     (λ q l z. sides_proper w (next q) l s j z) m
 
 -- ---- thresholds
@@ -57,7 +73,8 @@ whole_mono : (a b : ℤ) → a ≤ℤ b → whole a ≤F whole b
 whole_mono a b h = record { cross = omega (arith, ints) }
 
 scaled_mono : (s : ℕ) (a b : ℤ) → a ≤ℤ b → (pos s *ℤ a) ≤ℤ (pos s *ℤ b)
-scaled_mono s a b h = le_by (a ∷ b ∷ pos s ∷ []) ((at 0 ≼ at 1) ∷ (lit (pos 0) ≼ at 2) ∷ []) (at 2 ⊗ at 0) (at 2 ⊗ at 1) (known 0 ⊠ known 1) refl
+scaled_mono s a b h = le_by (a ∷ b ∷ pos s ∷ []) ((at 0 ≼ at 1) ∷ (lit (pos 0) ≼ at 2) ∷ []) (at 2 ⊗ at 0) (at 2 ⊗ at 1)
+    (known 0 ⊠ known 1) refl
     (h, (pos_nonneg s, tt))
 
 threshold_mono : (g : Grid) (q r : ℤ) → q ≤ℤ r → threshold g q ≤F threshold g r
@@ -67,16 +84,19 @@ threshold_mono (multiples m) q r h = whole_mono _ _ (scaled_mono (suc (m - 1)) q
 threshold_mono years q r h = whole_mono _ _ (first_day_rises q r h)
 
 -- in different cells, the later cell begins between
-threshold_between : (g : Grid) (a b : Fraction) (lo hi : ℤ) → a ≤F b → cell_at g (between a b) ≡ None → units_of_56 lo ≈ a → units_of_56 hi ≈ b
+threshold_between : (g : Grid) (a b : Fraction) (lo hi : ℤ) → a ≤F b → cell_at g (between a b) ≡ None
+    → units_of_56 lo ≈ a → units_of_56 hi ≈ b
     → HasThreshold g lo hi
 unfolding cell_at
 threshold_between g a b lo hi p e l h = record {
   begun = cell_of g b;
-  above = le_lt_trans _ _ _ (le_of_same l) (lt_le_trans _ _ _ ((cells_cut g).not_over a) (threshold_mono g _ _ later_cell));
+  above = le_lt_trans _ _ _ (le_of_same l)
+      (lt_le_trans _ _ _ ((cells_cut g).not_over a) (threshold_mono g _ _ later_cell));
   at_most = le_trans _ _ _ ((cells_cut g).begun b) (ge_of_same h);
 }
   where
-    apart : (t : Bool) → int_eq (cell_of g a) (cell_of g b) ≡ t → when t (cell_of g a) ≡ None → cell_of g a ≡ cell_of g b → ⊥
+    apart : (t : Bool) → int_eq (cell_of g a) (cell_of g b) ≡ t → when t (cell_of g a) ≡ None
+        → cell_of g a ≡ cell_of g b → ⊥
     apart true f n z = cc
     apart false f n z = let y : int_eq (cell_of g a) (cell_of g b) ≡ true = (Decides-int_eq _ _).1 z in cc
 
@@ -92,7 +112,8 @@ far_apart : (lo hi : ℤ) (m : ℕ) → m ≤ 2 ^ 44 → ((hi -ℤ lo) *ℤ pos 
 far_apart lo hi m s h n = omega (arith, ints, n.least, n.greatest)
 
 -- ---- sides
-within_endpoints : (i : Interval) (a b : Fraction) (lo hi : ℤ) → i ⊆ between a b → units_of_56 lo ≈ a → units_of_56 hi ≈ b
+within_endpoints : (i : Interval) (a b : Fraction) (lo hi : ℤ) → i ⊆ between a b → units_of_56 lo ≈ a
+    → units_of_56 hi ≈ b
     → i ⊆ between (units_of_56 lo) (units_of_56 hi)
 within_endpoints i a b lo hi h l r = within_trans h (record { endpoints = (le_of_same l, ge_of_same r) })
 
@@ -108,11 +129,13 @@ lies_from : (i j : Interval) (lo hi : ℤ) {m : ℕ} → AreNearBy m lo hi → i
 lies_from i j lo hi c h (bounds {a = a} {b = b} l r) = within_endpoints i a b lo hi h l r
 lies_from i j lo hi c h (no_bounds n) = absurd (far_apart lo hi _ c.0 c.1 n)
 
-near_undecided_cell : (g : Grid) (i j : Interval) (lo hi : ℤ) {m : ℕ} → AreNearBy m lo hi → IsProper i → i ⊆ j → IsUndecidedCell g j lo hi → AreNear lo hi (one_side g i)
+near_undecided_cell : (g : Grid) (i j : Interval) (lo hi : ℤ) {m : ℕ} → AreNearBy m lo hi → IsProper i → i ⊆ j
+    → IsUndecidedCell g j lo hi → AreNear lo hi (one_side g i)
 near_undecided_cell g i j lo hi c p h (too_far q e z n) = absurd (far_apart lo hi _ c.0 c.1 n)
 near_undecided_cell g i j lo hi c p h (between_cells e (no_bounds n)) = absurd (far_apart lo hi _ c.0 c.1 n)
 near_undecided_cell g i j lo hi c p h (between_cells e (bounds {a = a} {b = b} l r)) =
-    near_cell (within_endpoints i a b lo hi h l r) (threshold_between g a b lo hi (proper_outside i a b p h.endpoints) e l r)
+    near_cell (within_endpoints i a b lo hi h l r) (threshold_between g a b lo hi (proper_outside i a b p h.endpoints) e
+    l r)
 
 hull_holds_first : (i j : Interval) → i ⊆ hull i j
 unfolding hull

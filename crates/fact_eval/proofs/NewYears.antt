@@ -14,13 +14,16 @@ use Rattle.book_model.proofs.Leads.{leads_leaf, leads_value}
 use Rattle.moon_core.proofs.NewYears.{IsEstimate, search_start_near}
 
 -- the floor of the estimated passage doesn't lie far off
-pub is_estimate : {E : Type 0} {shown : E → Interval} (w : World) (site : Site) (moment : ℤ → Program Expression) (l d : ℤ) {a b e : ℕ} {y : E}
+pub is_estimate : {E : Type 0} {shown : E → Interval} (w : World) (site : Site) (moment : ℤ → Program Expression)
+    (l d : ℤ) {a b e : ℕ} {y : E}
     (r : Result ℤ Fail) →
-    Leads w (Within shown w) (last_passage_of moment l d) a b (Ok y) → Leads w Exact (cell site integers (leaf w (last_passage_of moment l d)) answer) b e r
+    Leads w (Within shown w) (last_passage_of moment l d) a b (Ok y)
+    → Leads w Exact (cell site integers (leaf w (last_passage_of moment l d)) answer) b e r
     → IfOk r (λ q. IsEstimate q)
 is_estimate w site moment l d (Ok q) h f =
     let v = decides w site integers (leaf w (last_passage_of moment l d)) (λ z. z) q (leads_value f) in
-    rw v.leads_to at (search_start_near w moment l d v.cell_there (leaf w (last_passage_of moment l d)) (leads_leaf h) v.decided_so)
+    rw v.leads_to at (search_start_near w moment l d v.cell_there (leaf w (last_passage_of moment l d)) (leads_leaf h)
+    v.decided_so)
 is_estimate w site moment l d (Err z) h f = tt
 
 pub begun : (r : Result ℤ Fail) → IfOk r (λ q. IsEstimate q) → IfOk r (λ q. (TABLE_START -ℤ pos 579) ≤ℤ q)

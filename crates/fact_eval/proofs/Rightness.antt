@@ -1,5 +1,6 @@
 -- The answer that an evaluation gives is right for its fact.
-use Rattle.std.specs.Prelude.{◌≡◌, ℕ, ◌≤◌, ◌==◌, ℤ, pos, negsuc, ◌≤ℤ◌, Bool, true, false, ◌||◌, IsTrue, Result, Ok, Err, IfOk, IfErr, refl}
+use Rattle.std.specs.Prelude.{◌≡◌, ℕ, ◌≤◌, ◌==◌, ℤ, pos, negsuc, ◌≤ℤ◌, Bool, true, false, ◌||◌, IsTrue, Result, Ok, Err}
+use Rattle.std.specs.Prelude.{IfOk, IfErr, refl}
 use Rattle.std.proofs.Common.{arith}
 use Rattle.std.proofs.lemmas.Bool.Decides.{nat_tests}
 use Rattle.std.proofs.lemmas.Int.{ints}
@@ -27,7 +28,8 @@ use Rattle.book_model.specs.programs.Widths.{IsClose, close_test}
 use Rattle.fact_eval.specs.Widths.{IsNoWholeDay}
 
 -- the formula of a fact by whether it may have a value
-pub program_inside : (f : Fact) → is_between FIRST_DAY LAST_DAY f.day ≡ true → program_of f ≡ formula_of f.kind f.place f.day
+pub program_inside : (f : Fact) → is_between FIRST_DAY LAST_DAY f.day ≡ true
+    → program_of f ≡ formula_of f.kind f.place f.day
 unfolding program_of
 program_inside f h = rw h refl
 
@@ -63,13 +65,15 @@ of_days k (Err (undecided_at u)) a h = λ e w. h e (early (whole_days k) u.turn 
 of_days k (Err (Void s)) a h = tt
 
 -- a kind of which no test of a year is undecided
-pub of_all_days : (k : Kind) (r : Result ℤ Fail) → whole_days k ≡ Everywhere → IfErr r IsNotOfYear → IfErr r (IsNoWholeDay k)
+pub of_all_days : (k : Kind) (r : Result ℤ Fail) → whole_days k ≡ Everywhere → IfErr r IsNotOfYear
+    → IfErr r (IsNoWholeDay k)
 of_all_days k (Ok v) a h = tt
 of_all_days k (Err (undecided_at u)) a h = λ e w. h e
 of_all_days k (Err (Void s)) a h = tt
 
 -- minutes after midnight are a value that a fact may have
-pub minutes_are_value : (r : Result ℤ Fail) → IfOk r (λ v. negsuc 0 ≤ℤ v) → IfOk r (λ v. v ≤ℤ pos 1440) → IfOk r IsFactValue
+pub minutes_are_value : (r : Result ℤ Fail) → IfOk r (λ v. negsuc 0 ≤ℤ v) → IfOk r (λ v. v ≤ℤ pos 1440)
+    → IfOk r IsFactValue
 minutes_are_value (Ok v) h k = (omega (arith, ints, h), omega (arith, ints, k))
 minutes_are_value (Err f) h k = tt
 
@@ -87,7 +91,8 @@ close_answer (Err (Void s)) h = tt
 close_answer (Err (undecided_at u)) (close_test h) = h
 
 -- what an evaluation that began with no test counted gives is right, wherever the bounds of an undecided test are close
-pub right_result : (f : Fact) (t : Result ℤ Fail) (a : ℕ) → ((w : World) → 40 ≤ w.depth → Leads w Exact (program_of f) 0 a t) → IfOk t IsFactValue
+pub right_result : (f : Fact) (t : Result ℤ Fail) (a : ℕ)
+    → ((w : World) → 40 ≤ w.depth → Leads w Exact (program_of f) 0 a t) → IfOk t IsFactValue
     → IfErr t (IsNoWholeDay f.kind)
     → IsCloseAnswer (answer_of t) → IsRightAnswer f (answer_of t)
 right_result f (Ok v) a h k l c = (true_of_leads f v (program_of f) a refl h, k)

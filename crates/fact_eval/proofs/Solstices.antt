@@ -1,5 +1,5 @@
--- The winter solstice and the major solar terms by the time of a place: how many tests they make, and from where to where the
--- terms lie.
+-- The winter solstice and the major solar terms by the time of a place: how many tests they make, and from where to
+-- where the terms lie.
 use Rattle.std.specs.Prelude.{◌≡◌, ℤ, pos, ◌≤ℤ◌, Some}
 use Rattle.std.proofs.Common.{arith}
 use Rattle.std.proofs.lemmas.Int.{ints}
@@ -11,8 +11,10 @@ use Rattle.book_model.specs.declared.fact.Place.{Place}
 use Rattle.book_model.specs.declared.sun_tables.TheConstants.{DEGREE_IN_TERMS}
 use Rattle.book_model.specs.numbers.Expressions.{Expression, World, value, exactly, constant, scale}
 use Rattle.book_model.specs.numbers.Fractions.{fraction_of}
-use Rattle.book_model.specs.sky.Kinds.{longitude_at_midnight_of, midnight_after_of, solstice_of, terms_passed_of, major_of}
-use Rattle.book_model.specs.programs.Programs.{integers, cell_at, run, valued, outcome, AtMost, answer_at_most, cell_at_most}
+use Rattle.book_model.specs.sky.Kinds.{longitude_at_midnight_of, midnight_after_of, solstice_of, terms_passed_of}
+use Rattle.book_model.specs.sky.Kinds.{major_of}
+use Rattle.book_model.specs.programs.Programs.{integers, cell_at, run, valued, outcome, AtMost, answer_at_most}
+use Rattle.book_model.specs.programs.Programs.{cell_at_most}
 use Rattle.book_model.specs.sky.Time.{midnight_of}
 use Rattle.book_model.proofs.Estimates.{floor_between, between_of_within}
 use Rattle.book_model.proofs.FactRuns.{sun_few, sun_within}
@@ -34,7 +36,8 @@ unfolding major_of
 major_few place d = at_most_more 3 99999 (omega arith) (at_most_bind 3 0 (passed_few place d) (λ q. answer_at_most))
 
 -- ---- the major solar terms
-twelve_terms : product (between (whole (pos 0)) (whole (pos 360))) (exactly (fraction_of DEGREE_IN_TERMS)) ⊆ between (whole (pos 0)) (whole (pos 12))
+twelve_terms : product (between (whole (pos 0)) (whole (pos 360))) (exactly (fraction_of DEGREE_IN_TERMS)) ⊆ between
+    (whole (pos 0)) (whole (pos 12))
 unfolding product least greatest smaller larger times is_at_most
 twelve_terms = record { endpoints = (record { cross = omega (arith, ints) }, record { cross = omega (arith, ints) }) }
 
@@ -43,11 +46,14 @@ pub record IsTerm (q : ℤ) : Type 0 where
   pub from : pos 0 ≤ℤ q
   pub to : q ≤ℤ pos 12
 
-pub term_near : (w : World) (place : Place) (d q : ℤ) (s : Expression) → outcome (run w (longitude_at_midnight_of place d)) ≡ valued s
+pub term_near : (w : World) (place : Place) (d q : ℤ) (s : Expression)
+    → outcome (run w (longitude_at_midnight_of place d)) ≡ valued s
     → cell_at integers (value w (scale (fraction_of DEGREE_IN_TERMS) s)) ≡ Some q → IsTerm q
 unfolding longitude_at_midnight_of value
 term_near w place d q s h e =
     let t = sun_within w (midnight_of place d) s h in
-    let i = within_trans (product_within (value_proper w s) (value_proper w (constant (fraction_of DEGREE_IN_TERMS))) t (within_refl _)) twelve_terms in
-    let f = floor_between (pos 0) (pos 12) q _ (value_proper w (scale (fraction_of DEGREE_IN_TERMS) s)) (between_of_within (pos 0) (pos 12) _ i) e in
+    let i = within_trans (product_within (value_proper w s) (value_proper w (constant (fraction_of DEGREE_IN_TERMS))) t
+    (within_refl _)) twelve_terms in
+    let f = floor_between (pos 0) (pos 12) q _ (value_proper w (scale (fraction_of DEGREE_IN_TERMS) s))
+    (between_of_within (pos 0) (pos 12) _ i) e in
     record { from = f.0; to = f.1 }

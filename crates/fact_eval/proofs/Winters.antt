@@ -16,13 +16,18 @@ use Rattle.book_model.proofs.Leads.{leads_leaf, leads_value}
 use Rattle.fact_eval.proofs.Solstices.{term_near, IsTerm}
 
 -- the spans of 30 degrees that the sun has passed are at most twelve
-pub is_term : {E : Type 0} {shown : E → Interval} (w : World) (site : Site) (place : Place) (d : ℤ) {a b e : ℕ} {y : E} (r : Result ℤ Fail) →
+pub is_term : {E : Type 0} {shown : E → Interval} (w : World) (site : Site) (place : Place) (d : ℤ) {a b e : ℕ} {y : E}
+    (r : Result ℤ Fail) →
     Leads w (Within shown w) (longitude_at_midnight_of place d) a b (Ok y)
-    → Leads w Exact (cell site integers (scale (fraction_of DEGREE_IN_TERMS) (leaf w (longitude_at_midnight_of place d))) answer) b e r
+    → Leads w Exact
+    (cell site integers (scale (fraction_of DEGREE_IN_TERMS) (leaf w (longitude_at_midnight_of place d))) answer) b e
+    r
     → IfOk r (λ q. IsTerm q)
 is_term w site place d (Ok q) h f =
-    let v = decides w site integers (scale (fraction_of DEGREE_IN_TERMS) (leaf w (longitude_at_midnight_of place d))) (λ z. z) q (leads_value f) in
-    rw v.leads_to at (term_near w place d v.cell_there (leaf w (longitude_at_midnight_of place d)) (leads_leaf h) v.decided_so)
+    let v = decides w site integers (scale (fraction_of DEGREE_IN_TERMS) (leaf w (longitude_at_midnight_of place d)))
+    (λ z. z) q (leads_value f) in
+    rw v.leads_to at (term_near w place d v.cell_there (leaf w (longitude_at_midnight_of place d)) (leads_leaf h)
+    v.decided_so)
 is_term w site place d (Err z) h f = tt
 
 pub term_from : (r : Result ℤ Fail) → IfOk r (λ q. IsTerm q) → IfOk r (λ q. pos 0 ≤ℤ q)

@@ -18,8 +18,8 @@ use Rattle.time_scales.specs.Corrections.{units_of_year}
 abbrev pub rounded_expression : Expression → Expression
 rounded_expression x = add (scale (fraction_of MILLISECONDS_OF_DAY) x) (constant (fraction_of HALF))
 
--- what an undecided test of ΔT keeps, at the scale 2^-bits, if the table promises of its year how many units it is apart: its
--- bounds, in units of 2^-56, lie at most 86,400,000 times as many units of the scale apart, and three
+-- what an undecided test of ΔT keeps, at the scale 2^-bits, if the table promises of its year how many units it is
+-- apart: its bounds, in units of 2^-56, lie at most 86,400,000 times as many units of the scale apart, and three
 abbrev pub AreCloseBy : (bits units : ℕ) → Fail → Type 0
 AreCloseBy bits units (Undecided u) = ((u.hi -ℤ u.lo) *ℤ pos 256) ≤ℤ pos ((86400000 * units + 3) * 2 ^ (64 - bits))
 AreCloseBy bits units (Void s) = Unit {0}

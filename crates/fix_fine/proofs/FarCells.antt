@@ -9,5 +9,6 @@ use Rattle.book_model.specs.programs.Programs.{integers, cell_at}
 no_bounds_of : (lo hi : ℤ) → AreEndpoints lo hi everything → AreNoBounds lo hi
 no_bounds_of lo hi (no_bounds n) = n
 
-pub far_open : (i : Interval) (lo hi q : ℤ) → Some q ≡ cell_at integers i → (FitsSigned w64 q → ⊥) → AreEndpoints lo hi everything → IsUndecidedCell integers i lo hi
+pub far_open : (i : Interval) (lo hi q : ℤ) → Some q ≡ cell_at integers i → (FitsSigned w64 q → ⊥)
+    → AreEndpoints lo hi everything → IsUndecidedCell integers i lo hi
 far_open i lo hi q e n a = too_far q (sym e) n (no_bounds_of lo hi a)

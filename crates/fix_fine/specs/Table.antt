@@ -65,38 +65,47 @@ pub record IsHullRow (x y r : Interval) : Type 0 where
 -- products of sizes whose product is below 2^14: each width times the other's size, and two units
 pub record IsProductRow (x y r : Interval) : Type 0 where
   pub known : IsKnown x → IsKnown y → size_of x * size_of y < 2 ^ 126 → IsKnown r
-  pub wide : IsKnown x → IsKnown y → IsKnown r → ((width_of r -ℤ pos 2) *ℤ pos (2 ^ 56)) ≤ℤ (pos (size_of y) *ℤ width_of x +ℤ pos (size_of x) *ℤ width_of y)
+  pub wide : IsKnown x → IsKnown y → IsKnown r
+      → ((width_of r -ℤ pos 2) *ℤ pos (2 ^ 56)) ≤ℤ (pos (size_of y) *ℤ width_of x +ℤ pos (size_of x) *ℤ width_of y)
 
--- products with a fraction whose numerator times the size is below 2^70: the width times the fraction's size, and two units
+-- products with a fraction whose numerator times the size is below 2^70: the width times the fraction's size, and two
+-- units
 pub record IsFactorRow (f : Fraction) (x r : Interval) : Type 0 where
   pub known : IsKnown x → unsigned_abs f.num * size_of x < 2 ^ 126 → IsKnown r
-  pub wide : IsKnown x → IsKnown r → ((width_of r -ℤ pos 2) *ℤ pos (f.below + 1)) ≤ℤ (width_of x *ℤ pos (unsigned_abs f.num))
+  pub wide : IsKnown x → IsKnown r → ((width_of r -ℤ pos 2) *ℤ pos (f.below + 1))
+      ≤ℤ (width_of x *ℤ pos (unsigned_abs f.num))
 
 -- squares of sizes below 2^7: twice the width times the size, and two units
 pub record IsSquareRow (x r : Interval) : Type 0 where
   pub known : IsKnown x → size_of x < 2 ^ 63 → IsKnown r
-  pub wide : IsKnown x → IsKnown r → ((width_of r -ℤ pos 2) *ℤ pos (2 ^ 56)) ≤ℤ (pos 2 *ℤ (pos (size_of x) *ℤ width_of x))
+  pub wide : IsKnown x → IsKnown r
+      → ((width_of r -ℤ pos 2) *ℤ pos (2 ^ 56)) ≤ℤ (pos 2 *ℤ (pos (size_of x) *ℤ width_of x))
 
 -- m is at most the size of each number between the endpoints, which are both above 0, or both below
 abbrev pub IsLeastSize : ℤ → Interval → Type 0
 IsLeastSize m i = (m ≤ℤ low_of i) ⊎ (high_of i ≤ℤ (pos 0 -ℤ m))
 
--- quotients by a divisor whose least size is m, above 0, and whose sizes are below 2^14, where the quotient of sizes is below 2^50: the
--- width over m, and the size times the divisor's width over m squared, and two units
+-- quotients by a divisor whose least size is m, above 0, and whose sizes are below 2^14, where the quotient of sizes is
+-- below 2^50: the width over m, and the size times the divisor's width over m squared, and two units
 pub record IsQuotientRow (x y r : Interval) : Type 0 where
-  pub known : IsKnown x → IsKnown y → (m : ℕ) → 0 < m → IsLeastSize (pos m) y → size_of y < 2 ^ 70 → size_of x < 2 ^ 50 * m → IsKnown r
+  pub known : IsKnown x → IsKnown y → (m : ℕ) → 0 < m → IsLeastSize (pos m) y → size_of y < 2 ^ 70
+      → size_of x < 2 ^ 50 * m → IsKnown r
   pub wide : IsKnown x → IsKnown y → IsKnown r → (m : ℕ) → 0 < m → IsLeastSize (pos m) y
-      → ((width_of r -ℤ pos 2) *ℤ (pos m *ℤ pos m)) ≤ℤ (pos (2 ^ 56) *ℤ (width_of x *ℤ pos m) +ℤ pos (2 ^ 56) *ℤ (pos (size_of x) *ℤ width_of y))
+      → ((width_of r -ℤ pos 2) *ℤ (pos m *ℤ pos m)) ≤ℤ (pos (2 ^ 56) *ℤ (width_of x *ℤ pos m) +ℤ pos
+      (2 ^ 56) *ℤ (pos (size_of x) *ℤ width_of y))
 
--- roots of numbers below 2^14 in size: where the lower endpoint is above 0, the width over twice its root, and two units. Both
--- sides are squared, of what the width is above two units.
+-- roots of numbers below 2^14 in size: where the lower endpoint is above 0, the width over twice its root, and two
+-- units. Both sides are squared, of what the width is above two units.
 pub record IsRootRow (x r : Interval) : Type 0 where
   pub known : IsKnown x → size_of x < 2 ^ 70 → IsKnown r
-  pub wide : IsKnown x → IsKnown r → pos 0 <ℤ low_of x → (e : ℕ) → width_of r ≡ pos 2 +ℤ pos e → (pos 4 *ℤ ((pos e *ℤ pos e) *ℤ low_of x))
+  pub wide : IsKnown x → IsKnown r → pos 0 <ℤ low_of x → (e : ℕ) → width_of r ≡ pos 2 +ℤ pos e
+      → (pos 4 *ℤ ((pos e *ℤ pos e) *ℤ low_of x))
       ≤ℤ ((width_of x *ℤ width_of x) *ℤ pos (2 ^ 56))
 
--- what is moved outwards, where the sizes are below 2^50 and the numerator's below 2^70: the width, twice the fraction's size, and
--- two units
+-- what is moved outwards, where the sizes are below 2^50 and the numerator's below 2^70: the width, twice the
+-- fraction's size, and two units
 pub record IsWidenedRow (f : Fraction) (x r : Interval) : Type 0 where
-  pub known : IsKnown x → size_of x < 2 ^ 106 → unsigned_abs f.num < 2 ^ 50 * (f.below + 1) → unsigned_abs f.num < 2 ^ 70 → IsKnown r
-  pub wide : IsKnown x → IsKnown r → (((width_of r -ℤ width_of x) -ℤ pos 2) *ℤ pos (f.below + 1)) ≤ℤ (pos (2 * unsigned_abs f.num) *ℤ pos (2 ^ 56))
+  pub known : IsKnown x → size_of x < 2 ^ 106 → unsigned_abs f.num < 2 ^ 50 * (f.below + 1)
+      → unsigned_abs f.num < 2 ^ 70 → IsKnown r
+  pub wide : IsKnown x → IsKnown r → (((width_of r -ℤ width_of x) -ℤ pos 2) *ℤ pos (f.below + 1))
+      ≤ℤ (pos (2 * unsigned_abs f.num) *ℤ pos (2 ^ 56))

@@ -19,11 +19,15 @@ months_are : (days : ℤ) → observed_months_of days ≡ floor_quotient ((days 
 unfolding observed_months_of nearest times plus reciprocal
 months_are days = refl
 
-pub months_near : (days : ℤ) → LiesWithin (negsuc 19999999) (pos 20000000) days → LiesWithin (negsuc 799999) (pos 800000) (observed_months_of days)
+pub months_near : (days : ℤ) → LiesWithin (negsuc 19999999) (pos 20000000) days
+    → LiesWithin (negsuc 799999) (pos 800000) (observed_months_of days)
 months_near days h =
     let f = floor_quotient_is ((days *ℤ pos 2) *ℤ pos 2 +ℤ pos 59) 117 in
     let e = months_are days in
-    record { from = omega (arith, ints, h.from, h.to, e, f.not_above, f.close); to = omega (arith, ints, h.from, h.to, e, f.not_above, f.close) }
+    record {
+      from = omega (arith, ints, h.from, h.to, e, f.not_above, f.close);
+      to = omega (arith, ints, h.from, h.to, e, f.not_above, f.close);
+    }
 
 -- ---- the days of months
 days_are : (months : ℤ) → days_of_observed_months months ≡ floor_quotient ((pos 59 *ℤ months) *ℤ pos 2 +ℤ pos 2) 3
@@ -38,8 +42,12 @@ days_halved months =
     let e = days_are months in
     omega (arith, ints, e, f.not_above, f.close, g.not_above, g.close)
 
-pub days_near : (months : ℤ) → pos 0 ≤ℤ months → months ≤ℤ pos 12 → LiesWithin (pos 0) (pos 400) (days_of_observed_months months)
+pub days_near : (months : ℤ) → pos 0 ≤ℤ months → months ≤ℤ pos 12
+    → LiesWithin (pos 0) (pos 400) (days_of_observed_months months)
 days_near months h k =
     let g = floor_quotient_is ((pos 59 *ℤ months) *ℤ pos 2 +ℤ pos 2) 3 in
     let e = days_are months in
-    record { from = omega (arith, ints, h, k, e, g.not_above, g.close); to = omega (arith, ints, h, k, e, g.not_above, g.close) }
+    record {
+      from = omega (arith, ints, h, k, e, g.not_above, g.close);
+      to = omega (arith, ints, h, k, e, g.not_above, g.close);
+    }

@@ -1,7 +1,8 @@
 -- From where to where the numbers lie that the rules go by.
 use Rattle.std.specs.Prelude.{ℤ, pos, negsuc, ◌≤ℤ◌}
 
--- a Gregorian year of which the first of Nisan is asked: dates are read less their signs, so that the number of a year may lie below 0
+-- a Gregorian year of which the first of Nisan is asked: dates are read less their signs, so that the number of a year
+-- may lie below 0
 abbrev pub IsNisanYear : ℤ → Type 0
 IsNisanYear year = (negsuc 14999 ≤ℤ year) × (year ≤ℤ pos 15000)
 

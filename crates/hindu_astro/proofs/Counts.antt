@@ -9,7 +9,8 @@ use Rattle.book_model.specs.numbers.Fractions.{fraction_of}
 use Rattle.book_model.specs.calendars.Spans.{days_of, ratio}
 use Rattle.calendar_math.proofs.SpanLemmas.{LiesWithin}
 
-days_are : (twelfths : ℤ) → days_of (fraction_of SIDEREAL_YEAR) (ratio twelfths 12) ≡ floor_quotient (pos 36525636 *ℤ twelfths) 1199999
+days_are : (twelfths : ℤ) → days_of (fraction_of SIDEREAL_YEAR) (ratio twelfths 12) ≡ floor_quotient
+    (pos 36525636 *ℤ twelfths) 1199999
 unfolding days_of times
 days_are twelfths = refl
 
@@ -18,4 +19,7 @@ pub days_near : (twelfths : ℤ) → negsuc 119999 ≤ℤ twelfths → twelfths 
 days_near twelfths h k =
     let f = floor_quotient_is (pos 36525636 *ℤ twelfths) 1199999 in
     let e = days_are twelfths in
-    record { from = omega (arith, ints, h, k, e, f.not_above, f.close); to = omega (arith, ints, h, k, e, f.not_above, f.close) }
+    record {
+      from = omega (arith, ints, h, k, e, f.not_above, f.close);
+      to = omega (arith, ints, h, k, e, f.not_above, f.close);
+    }

@@ -1,4 +1,5 @@
--- Which failures are at the year: an undecided rounding is none, and a year that is undecided of a whole day there isn't.
+-- Which failures are at the year: an undecided rounding is none, and a year that is undecided of a whole day there
+-- isn't.
 use Rattle.std.specs.Prelude.{ℕ, ◌≤◌, ℤ, Result, Ok, Err, IfErr}
 use Rattle.book_model.specs.Interval.{Interval}
 use Rattle.book_model.specs.declared.fail.Fail.{Fail}
@@ -14,7 +15,8 @@ use Rattle.time_scales.proofs.WholeDays.{no_early_year}
 use Rattle.moon_core.proofs.SunUndecidedTests.{open_is_early}
 
 -- an undecided rounding isn't of the year
-pub round_elsewhere : {T : Type 0} (i j : Interval) (r : Result T Fail) → IfErr r (IsUndecidedFloor i Round) → IfErr r (IsYearUndecidedFor j)
+pub round_elsewhere : {T : Type 0} (i j : Interval) (r : Result T Fail) → IfErr r (IsUndecidedFloor i Round)
+    → IfErr r (IsYearUndecidedFor j)
 round_elsewhere i j (Ok v) h = h
 round_elsewhere i j (Err (undecided_at u)) h = λ e. let s = h.1 in absurd (cc)
 round_elsewhere i j (Err (Void s)) h = absurd h
@@ -22,7 +24,8 @@ round_elsewhere i j (Err (Void s)) h = absurd h
 pub ruleset opening = (round_elsewhere)
 
 -- a year that is undecided of a whole day is none
-pub whole_day_year : {E T : Type 0} (shown : E → Interval) (bits : ℕ) (d : ℤ) (e : E) (r : Result T Fail) → 36 ≤ bits → bits ≤ 56 → IsValueDay d
+pub whole_day_year : {E T : Type 0} (shown : E → Interval) (bits : ℕ) (d : ℤ) (e : E) (r : Result T Fail) → 36 ≤ bits
+    → bits ≤ 56 → IsValueDay d
     → ((k : Reach) → Narrow shown (limits_of bits) k (integer d) e)
     → IfErr r (IsYearUndecidedFor (shown e)) → IfErr r IsNoEarlyYear
 whole_day_year shown bits d e (Ok v) p q h n o = tt

@@ -48,7 +48,8 @@ pub high_below : (h p : ℕ) → h * 2 ^ 64 ≤ p → whole (pos h) ≤F times (
 unfolding unit times
 high_below h p e = record { cross = omega (arith, ints, e) }
 
-pub high_above : (h p : ℕ) → p ≤ h * 2 ^ 64 + 2 ^ 64 → times (whole (pos p)) unit ≤F plus (whole (pos h)) (whole (pos 1))
+pub high_above : (h p : ℕ) → p ≤ h * 2 ^ 64 + 2 ^ 64 → times (whole (pos p)) unit ≤F plus (whole (pos h))
+    (whole (pos 1))
 unfolding unit times plus
 high_above h p e = record { cross = omega (arith, ints, e) }
 

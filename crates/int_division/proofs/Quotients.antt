@@ -1,5 +1,6 @@
 -- Rounded quotients, over plain numbers.
-use Rattle.std.proofs.Common.{◌≡◌, ℕ, zero, suc, ◌+◌, ◌-◌, ◌*◌, ◌/◌, ◌^◌, ◌≤◌, ◌<◌, refl, arith, ℤ, pos, negsuc, ◌+ℤ◌, ◌*ℤ◌, ◌≤ℤ◌, ◌<ℤ◌, [], ◌∷◌}
+use Rattle.std.proofs.Common.{◌≡◌, ℕ, zero, suc, ◌+◌, ◌-◌, ◌*◌, ◌/◌, ◌^◌, ◌≤◌, ◌<◌, refl, arith, ℤ, pos, negsuc, ◌+ℤ◌}
+use Rattle.std.proofs.Common.{◌*ℤ◌, ◌≤ℤ◌, ◌<ℤ◌, [], ◌∷◌}
 use Rattle.std.specs.Prelude.{int_div, neg_ℤ}
 use Rattle.std.specs.Int.{int_div_euclid}
 use Rattle.std.proofs.lemmas.Int.{ints}
@@ -35,7 +36,8 @@ quotient_down (negsuc n) d h o = absurd (omega (arith, ints))
 quotient_down n (pos zero) h o = absurd (omega (arith, ints))
 quotient_down n (negsuc d) h o = absurd (omega (arith, ints))
 
-below_zero : (q d n : ℕ) → q * suc d ≤ suc n → suc n < q * suc d + suc d → IsCeiling (neg_ℤ (pos q)) (negsuc n) (pos (suc d))
+below_zero : (q d n : ℕ) → q * suc d ≤ suc n → suc n < q * suc d + suc d
+    → IsCeiling (neg_ℤ (pos q)) (negsuc n) (pos (suc d))
 below_zero zero d n h k = record { not_below = omega (arith, ints); close = omega (arith, ints) }
 below_zero (suc q) d n h k = record { not_below = omega (arith, ints); close = omega (arith, ints) }
 
@@ -72,8 +74,10 @@ raised_floor q n k f =
     let t = lit (pos (2 ^ 36)) in
     let one = lit (pos 1) in
     record {
-      not_above = le_by (q ∷ n ∷ k ∷ []) ((at 0 ⊗ at 2 ≼ at 1) ∷ []) (at 0 ⊗ (at 2 ⊗ t)) (at 1 ⊗ t) (naturally (2 ^ 36) ⊠ known 0) refl (f.not_above, tt);
-      close = lt_next _ _ (le_by (q ∷ n ∷ k ∷ []) ((at 1 ⊕ one ≼ at 0 ⊗ at 2 ⊕ at 2) ∷ []) (at 1 ⊗ t ⊕ one) (at 0 ⊗ (at 2 ⊗ t) ⊕ at 2 ⊗ t)
+      not_above = le_by (q ∷ n ∷ k ∷ []) ((at 0 ⊗ at 2 ≼ at 1) ∷ []) (at 0 ⊗ (at 2 ⊗ t)) (at 1 ⊗ t)
+          (naturally (2 ^ 36) ⊠ known 0) refl (f.not_above, tt);
+      close = lt_next _ _ (le_by (q ∷ n ∷ k ∷ []) ((at 1 ⊕ one ≼ at 0 ⊗ at 2 ⊕ at 2) ∷ []) (at 1 ⊗ t ⊕ one)
+          (at 0 ⊗ (at 2 ⊗ t) ⊕ at 2 ⊗ t)
           (naturally (2 ^ 36) ⊠ known 0 ⊞ naturally (2 ^ 36 - 1)) refl (next_le _ _ f.close, tt));
     }
 
@@ -83,8 +87,10 @@ raised_ceiling q n k f =
     let t = lit (pos (2 ^ 36)) in
     let one = lit (pos 1) in
     record {
-      not_below = le_by (q ∷ n ∷ k ∷ []) ((at 1 ≼ at 0 ⊗ at 2) ∷ []) (at 1 ⊗ t) (at 0 ⊗ (at 2 ⊗ t)) (naturally (2 ^ 36) ⊠ known 0) refl (f.not_below, tt);
-      close = lt_next _ _ (le_by (q ∷ n ∷ k ∷ []) ((at 0 ⊗ at 2 ⊕ one ≼ at 1 ⊕ at 2) ∷ []) (at 0 ⊗ (at 2 ⊗ t) ⊕ one) (at 1 ⊗ t ⊕ at 2 ⊗ t)
+      not_below = le_by (q ∷ n ∷ k ∷ []) ((at 1 ≼ at 0 ⊗ at 2) ∷ []) (at 1 ⊗ t) (at 0 ⊗ (at 2 ⊗ t))
+          (naturally (2 ^ 36) ⊠ known 0) refl (f.not_below, tt);
+      close = lt_next _ _ (le_by (q ∷ n ∷ k ∷ []) ((at 0 ⊗ at 2 ⊕ one ≼ at 1 ⊕ at 2) ∷ []) (at 0 ⊗ (at 2 ⊗ t) ⊕ one)
+          (at 1 ⊗ t ⊕ at 2 ⊗ t)
           (naturally (2 ^ 36) ⊠ known 0 ⊞ naturally (2 ^ 36 - 1)) refl (next_le _ _ f.close, tt));
     }
 
@@ -98,13 +104,15 @@ fine_ceiling q n k d e f = rw e at (raised_ceiling q n k f)
 -- products of numbers that aren't negative are in the order of the numbers
 pub products_mono : (a b c d : ℤ) → pos 0 ≤ℤ a → pos 0 ≤ℤ c → a ≤ℤ b → c ≤ℤ d → (a *ℤ c) ≤ℤ (b *ℤ d)
 products_mono a b c d h k m n =
-    le_by (a ∷ b ∷ c ∷ d ∷ []) ((lit (pos 0) ≼ at 0) ∷ (lit (pos 0) ≼ at 2) ∷ (at 0 ≼ at 1) ∷ (at 2 ≼ at 3) ∷ []) (at 0 ⊗ at 2) (at 1 ⊗ at 3)
+    le_by (a ∷ b ∷ c ∷ d ∷ []) ((lit (pos 0) ≼ at 0) ∷ (lit (pos 0) ≼ at 2) ∷ (at 0 ≼ at 1) ∷ (at 2 ≼ at 3) ∷ [])
+    (at 0 ⊗ at 2) (at 1 ⊗ at 3)
     (known 2 ⊠ known 3 ⊞ known 2 ⊠ known 1 ⊞ known 0 ⊠ known 3) refl (h, (k, (m, (n, tt))))
 
 -- numbers are in order where their multiples are
 order_z : (m g d lo hi : ℤ) → m ≤ℤ g → (lo *ℤ d) ≤ℤ m → g ≤ℤ (hi *ℤ d) → pos 1 ≤ℤ d → lo ≤ℤ hi
 order_z m g d lo hi h0 h1 h2 h3 =
-    le_over (m ∷ g ∷ d ∷ lo ∷ hi ∷ []) ((at 0 ≼ at 1) ∷ (at 3 ⊗ at 2 ≼ at 0) ∷ (at 1 ≼ at 4 ⊗ at 2) ∷ []) (at 2) (at 3) (at 4) (known 0 ⊞ known 1 ⊞ known 2)
+    le_over (m ∷ g ∷ d ∷ lo ∷ hi ∷ []) ((at 0 ≼ at 1) ∷ (at 3 ⊗ at 2 ≼ at 0) ∷ (at 1 ≼ at 4 ⊗ at 2) ∷ []) (at 2) (at 3)
+    (at 4) (known 0 ⊞ known 1 ⊞ known 2)
     refl h3 (h0, (h1, (h2, tt)))
 
 -- rounding outwards keeps the order

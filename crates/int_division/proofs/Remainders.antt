@@ -18,7 +18,11 @@ left_lies n q (suc d) h k =
     let e : suc d - 1 ≡ d = omega arith in
     let f = floor_quotient_is (n -ℤ pos 1) d in
     let is : q ≡ floor_quotient (n -ℤ pos 1) d = rw e at k in
-    rw is (record { same = rw e refl; from = omega (arith, ints, f.not_above, f.close); to = omega (arith, ints, f.not_above, f.close) })
+    rw is (record {
+      same = rw e refl;
+      from = omega (arith, ints, f.not_above, f.close);
+      to = omega (arith, ints, f.not_above, f.close);
+    })
 
 -- the same, of the quotient of the number itself
 pub record IsRest (n q : ℤ) (d : ℕ) : Type 0 where
@@ -32,4 +36,8 @@ rest_lies n q (suc d) h k =
     let e : suc d - 1 ≡ d = omega arith in
     let f = floor_quotient_is n d in
     let is : q ≡ floor_quotient n d = rw e at k in
-    rw is (record { same = rw e refl; from = omega (arith, ints, f.not_above, f.close); to = omega (arith, ints, f.not_above, f.close) })
+    rw is (record {
+      same = rw e refl;
+      from = omega (arith, ints, f.not_above, f.close);
+      to = omega (arith, ints, f.not_above, f.close);
+    })

@@ -1,11 +1,13 @@
 -- Quotients and squares of endpoints at a scale, rounded outwards.
 use Rattle.interval_endpoints.specs.Scales.{Scale, coarse, fine, at_scale, at_square, unit}
-use Rattle.std.proofs.Common.{◌≡◌, ℕ, zero, suc, ◌^◌, ◌-◌, refl, sym, ap, subst, arith, Bool, true, false, cond, ℤ, pos, negsuc, ◌*ℤ◌, ◌-ℤ◌, ◌≤ℤ◌, ◌<ℤ◌, [], ◌∷◌, inl, inr}
+use Rattle.std.proofs.Common.{◌≡◌, ℕ, zero, suc, ◌^◌, ◌-◌, refl, sym, ap, subst, arith, Bool, true, false, cond, ℤ, pos}
+use Rattle.std.proofs.Common.{negsuc, ◌*ℤ◌, ◌-ℤ◌, ◌≤ℤ◌, ◌<ℤ◌, [], ◌∷◌, inl, inr}
 use Rattle.std.proofs.lemmas.Int.{ints}
 use lib.IntN.{neg_ℤ}
 use lib.Signed.{lt_z, le_z, ≤ℤ_refl}
 use Rattle.book_model.specs.Fraction.{Fraction, ◌≤F◌, times, reciprocal, is_at_most, power as fraction_power}
-use Rattle.book_model.specs.Interval.{Interval, between, ◌⊆◌, product, quotient, excludes_zero, least_even, power as interval_power, zero_fraction}
+use Rattle.book_model.specs.Interval.{Interval, between, ◌⊆◌, product, quotient, excludes_zero, least_even}
+use Rattle.book_model.specs.Interval.{power as interval_power, zero_fraction}
 use Rattle.book_model.proofs.Ring.{at, lit, ◌⊖◌, ◌⊗◌, minus}
 use Rattle.book_model.proofs.Bounds.{◌≼◌, known, ◌⊠◌, times as naturally, le_by, pos_nonneg, square_nonneg}
 use Rattle.book_model.proofs.IntLaws.{mul_one}
@@ -18,29 +20,35 @@ use Rattle.interval_endpoints.proofs.Keeping.{kept_within}
 -- a number in units of 2^-72
 -- ---- a / c at the scale
 over_z : (q a c k : ℤ) → pos 0 ≤ℤ k → (q *ℤ c) ≤ℤ (a *ℤ k) → (q *ℤ (k *ℤ c)) ≤ℤ ((a *ℤ k) *ℤ k)
-over_z q a c k p h = le_by (q ∷ a ∷ c ∷ k ∷ []) ((lit (pos 0) ≼ at 3) ∷ (at 0 ⊗ at 2 ≼ at 1 ⊗ at 3) ∷ []) (at 0 ⊗ (at 3 ⊗ at 2)) ((at 1 ⊗ at 3) ⊗ at 3)
+over_z q a c k p h = le_by (q ∷ a ∷ c ∷ k ∷ []) ((lit (pos 0) ≼ at 3) ∷ (at 0 ⊗ at 2 ≼ at 1 ⊗ at 3) ∷ [])
+    (at 0 ⊗ (at 3 ⊗ at 2)) ((at 1 ⊗ at 3) ⊗ at 3)
     (known 1 ⊠ known 0) refl (p, (h, tt))
 
 over_negative_z : (q a c k : ℤ) → pos 0 ≤ℤ k → (q *ℤ c) ≤ℤ (pos 0 -ℤ a *ℤ k) → (q *ℤ (k *ℤ c)) ≤ℤ ((a *ℤ neg_ℤ k) *ℤ k)
 over_negative_z q a c k p h =
-    le_by (q ∷ a ∷ c ∷ k ∷ []) ((lit (pos 0) ≼ at 3) ∷ (at 0 ⊗ at 2 ≼ lit (pos 0) ⊖ at 1 ⊗ at 3) ∷ []) (at 0 ⊗ (at 3 ⊗ at 2)) ((at 1 ⊗ minus (at 3)) ⊗ at 3)
+    le_by (q ∷ a ∷ c ∷ k ∷ []) ((lit (pos 0) ≼ at 3) ∷ (at 0 ⊗ at 2 ≼ lit (pos 0) ⊖ at 1 ⊗ at 3) ∷ [])
+    (at 0 ⊗ (at 3 ⊗ at 2)) ((at 1 ⊗ minus (at 3)) ⊗ at 3)
     (known 1 ⊠ known 0) refl (p, (h, tt))
 
 under_z : (q a c k : ℤ) → pos 0 ≤ℤ k → (a *ℤ k) ≤ℤ (q *ℤ c) → ((a *ℤ k) *ℤ k) ≤ℤ (q *ℤ (k *ℤ c))
-under_z q a c k p h = le_by (q ∷ a ∷ c ∷ k ∷ []) ((lit (pos 0) ≼ at 3) ∷ (at 1 ⊗ at 3 ≼ at 0 ⊗ at 2) ∷ []) ((at 1 ⊗ at 3) ⊗ at 3) (at 0 ⊗ (at 3 ⊗ at 2))
+under_z q a c k p h = le_by (q ∷ a ∷ c ∷ k ∷ []) ((lit (pos 0) ≼ at 3) ∷ (at 1 ⊗ at 3 ≼ at 0 ⊗ at 2) ∷ [])
+    ((at 1 ⊗ at 3) ⊗ at 3) (at 0 ⊗ (at 3 ⊗ at 2))
     (known 1 ⊠ known 0) refl (p, (h, tt))
 
 under_negative_z : (q a c k : ℤ) → pos 0 ≤ℤ k → (pos 0 -ℤ a *ℤ k) ≤ℤ (q *ℤ c) → ((a *ℤ neg_ℤ k) *ℤ k) ≤ℤ (q *ℤ (k *ℤ c))
 under_negative_z q a c k p h =
-    le_by (q ∷ a ∷ c ∷ k ∷ []) ((lit (pos 0) ≼ at 3) ∷ (lit (pos 0) ⊖ at 1 ⊗ at 3 ≼ at 0 ⊗ at 2) ∷ []) ((at 1 ⊗ minus (at 3)) ⊗ at 3) (at 0 ⊗ (at 3 ⊗ at 2))
+    le_by (q ∷ a ∷ c ∷ k ∷ []) ((lit (pos 0) ≼ at 3) ∷ (lit (pos 0) ⊖ at 1 ⊗ at 3 ≼ at 0 ⊗ at 2) ∷ [])
+    ((at 1 ⊗ minus (at 3)) ⊗ at 3) (at 0 ⊗ (at 3 ⊗ at 2))
     (known 1 ⊠ known 0) refl (p, (h, tt))
 
 pub floor_ratio_positive : (scale : Scale) → (q a c : ℤ) → pos 0 <ℤ c → (q *ℤ c) ≤ℤ (a *ℤ (unit scale))
     → at_scale scale q ≤F times (at_scale scale a) (reciprocal (at_scale scale c))
 unfolding times reciprocal
-floor_ratio_positive coarse q a (pos (suc m)) h f = by_cross (at_scale coarse q) _ (unit coarse) ((unit coarse) *ℤ pos (suc m)) refl
+floor_ratio_positive coarse q a (pos (suc m)) h f = by_cross (at_scale coarse q) _ (unit coarse)
+    ((unit coarse) *ℤ pos (suc m)) refl
     (den_product (2 ^ 36 - 1) m) (over_z q a (pos (suc m)) (unit coarse) (pos_nonneg (2 ^ 36)) f)
-floor_ratio_positive fine q a (pos (suc m)) h f = by_cross (at_scale fine q) _ (unit fine) ((unit fine) *ℤ pos (suc m)) refl (den_product (2 ^ 56 - 1) m)
+floor_ratio_positive fine q a (pos (suc m)) h f = by_cross (at_scale fine q) _ (unit fine) ((unit fine) *ℤ pos (suc m))
+    refl (den_product (2 ^ 56 - 1) m)
     (over_z q a (pos (suc m)) (unit fine) (pos_nonneg (2 ^ 56)) f)
 floor_ratio_positive coarse q a (pos zero) h f = absurd (omega (arith, ints))
 floor_ratio_positive fine q a (pos zero) h f = absurd (omega (arith, ints))
@@ -50,39 +58,47 @@ floor_ratio_positive fine q a (negsuc m) h f = absurd (omega (arith, ints))
 negated : (m : ℕ) → pos 0 -ℤ negsuc m ≡ pos (suc m)
 negated m = omega (arith, ints)
 
-pub floor_ratio_negative : (scale : Scale) → (q a c : ℤ) → c <ℤ pos 0 → (q *ℤ (pos 0 -ℤ c)) ≤ℤ (pos 0 -ℤ a *ℤ (unit scale))
+pub floor_ratio_negative : (scale : Scale) → (q a c : ℤ) → c <ℤ pos 0
+    → (q *ℤ (pos 0 -ℤ c)) ≤ℤ (pos 0 -ℤ a *ℤ (unit scale))
     → at_scale scale q ≤F times (at_scale scale a) (reciprocal (at_scale scale c))
 unfolding times reciprocal
 floor_ratio_negative coarse q a (negsuc m) h f =
     by_cross (at_scale coarse q) _ (unit coarse) ((unit coarse) *ℤ pos (suc m)) refl (den_product (2 ^ 36 - 1) m)
-    (over_negative_z q a (pos (suc m)) (unit coarse) (pos_nonneg (2 ^ 36)) (subst (λ x. (q *ℤ x) ≤ℤ (pos 0 -ℤ a *ℤ (unit coarse))) (negated m) f))
+    (over_negative_z q a (pos (suc m)) (unit coarse) (pos_nonneg (2 ^ 36))
+    (subst (λ x. (q *ℤ x) ≤ℤ (pos 0 -ℤ a *ℤ (unit coarse))) (negated m) f))
 floor_ratio_negative fine q a (negsuc m) h f =
     by_cross (at_scale fine q) _ (unit fine) ((unit fine) *ℤ pos (suc m)) refl (den_product (2 ^ 56 - 1) m)
-    (over_negative_z q a (pos (suc m)) (unit fine) (pos_nonneg (2 ^ 56)) (subst (λ x. (q *ℤ x) ≤ℤ (pos 0 -ℤ a *ℤ (unit fine))) (negated m) f))
+    (over_negative_z q a (pos (suc m)) (unit fine) (pos_nonneg (2 ^ 56))
+    (subst (λ x. (q *ℤ x) ≤ℤ (pos 0 -ℤ a *ℤ (unit fine))) (negated m) f))
 floor_ratio_negative coarse q a (pos m) h f = absurd (omega (arith, ints))
 floor_ratio_negative fine q a (pos m) h f = absurd (omega (arith, ints))
 
 pub ceil_ratio_positive : (scale : Scale) → (q a c : ℤ) → pos 0 <ℤ c → (a *ℤ (unit scale)) ≤ℤ (q *ℤ c)
     → times (at_scale scale a) (reciprocal (at_scale scale c)) ≤F at_scale scale q
 unfolding times reciprocal
-ceil_ratio_positive coarse q a (pos (suc m)) h f = by_cross _ (at_scale coarse q) ((unit coarse) *ℤ pos (suc m)) (unit coarse) (den_product (2 ^ 36 - 1) m) refl
+ceil_ratio_positive coarse q a (pos (suc m)) h f = by_cross _ (at_scale coarse q) ((unit coarse) *ℤ pos (suc m))
+    (unit coarse) (den_product (2 ^ 36 - 1) m) refl
     (under_z q a (pos (suc m)) (unit coarse) (pos_nonneg (2 ^ 36)) f)
-ceil_ratio_positive fine q a (pos (suc m)) h f = by_cross _ (at_scale fine q) ((unit fine) *ℤ pos (suc m)) (unit fine) (den_product (2 ^ 56 - 1) m) refl
+ceil_ratio_positive fine q a (pos (suc m)) h f = by_cross _ (at_scale fine q) ((unit fine) *ℤ pos (suc m)) (unit fine)
+    (den_product (2 ^ 56 - 1) m) refl
     (under_z q a (pos (suc m)) (unit fine) (pos_nonneg (2 ^ 56)) f)
 ceil_ratio_positive coarse q a (pos zero) h f = absurd (omega (arith, ints))
 ceil_ratio_positive fine q a (pos zero) h f = absurd (omega (arith, ints))
 ceil_ratio_positive coarse q a (negsuc m) h f = absurd (omega (arith, ints))
 ceil_ratio_positive fine q a (negsuc m) h f = absurd (omega (arith, ints))
 
-pub ceil_ratio_negative : (scale : Scale) → (q a c : ℤ) → c <ℤ pos 0 → (pos 0 -ℤ a *ℤ (unit scale)) ≤ℤ (q *ℤ (pos 0 -ℤ c))
+pub ceil_ratio_negative : (scale : Scale) → (q a c : ℤ) → c <ℤ pos 0
+    → (pos 0 -ℤ a *ℤ (unit scale)) ≤ℤ (q *ℤ (pos 0 -ℤ c))
     → times (at_scale scale a) (reciprocal (at_scale scale c)) ≤F at_scale scale q
 unfolding times reciprocal
 ceil_ratio_negative coarse q a (negsuc m) h f =
     by_cross _ (at_scale coarse q) ((unit coarse) *ℤ pos (suc m)) (unit coarse) (den_product (2 ^ 36 - 1) m) refl
-    (under_negative_z q a (pos (suc m)) (unit coarse) (pos_nonneg (2 ^ 36)) (subst (λ x. (pos 0 -ℤ a *ℤ (unit coarse)) ≤ℤ (q *ℤ x)) (negated m) f))
+    (under_negative_z q a (pos (suc m)) (unit coarse) (pos_nonneg (2 ^ 36))
+    (subst (λ x. (pos 0 -ℤ a *ℤ (unit coarse)) ≤ℤ (q *ℤ x)) (negated m) f))
 ceil_ratio_negative fine q a (negsuc m) h f =
     by_cross _ (at_scale fine q) ((unit fine) *ℤ pos (suc m)) (unit fine) (den_product (2 ^ 56 - 1) m) refl
-    (under_negative_z q a (pos (suc m)) (unit fine) (pos_nonneg (2 ^ 56)) (subst (λ x. (pos 0 -ℤ a *ℤ (unit fine)) ≤ℤ (q *ℤ x)) (negated m) f))
+    (under_negative_z q a (pos (suc m)) (unit fine) (pos_nonneg (2 ^ 56))
+    (subst (λ x. (pos 0 -ℤ a *ℤ (unit fine)) ≤ℤ (q *ℤ x)) (negated m) f))
 ceil_ratio_negative coarse q a (pos m) h f = absurd (omega (arith, ints))
 ceil_ratio_negative fine q a (pos m) h f = absurd (omega (arith, ints))
 
@@ -99,7 +115,8 @@ record HoldFour (scale : Scale) (a b : ℤ) (c d : Fraction) (lo hi : ℤ) : Typ
   high_4 : times (at_scale scale b) d ≤F at_scale scale hi
 
 four_enclose : (scale : Scale) → (a b : ℤ) (c d : Fraction) (lo hi : ℤ) → HoldFour scale a b c d lo hi
-    → product (between (at_scale scale a) (at_scale scale b)) (between c d) ⊆ between (at_scale scale lo) (at_scale scale hi)
+    → product (between (at_scale scale a) (at_scale scale b)) (between c d) ⊆ between (at_scale scale lo)
+    (at_scale scale hi)
 unfolding product
 four_enclose scale a b c d lo hi h = record {
   endpoints = (
@@ -108,9 +125,12 @@ four_enclose scale a b c d lo hi h = record {
   );
 }
 
-excludes_from : (scale : Scale) → (c d : ℤ) → IsOneSided c d → excludes_zero (at_scale scale c) (at_scale scale d) ≡ true
-excludes_from coarse c d (inl h) = let p : pos 0 <ℤ c = h.0 in let e : true ≡ lt_z (pos 0) c = omega (arith, ints) in rw (← e) refl
-excludes_from fine c d (inl h) = let p : pos 0 <ℤ c = h.0 in let e : true ≡ lt_z (pos 0) c = omega (arith, ints) in rw (← e) refl
+excludes_from : (scale : Scale) → (c d : ℤ) → IsOneSided c d → excludes_zero (at_scale scale c) (at_scale scale d)
+    ≡ true
+excludes_from coarse c d (inl h) = let p : pos 0 <ℤ c = h.0 in let e : true ≡ lt_z (pos 0) c = omega (arith, ints) in
+    rw (← e) refl
+excludes_from fine c d (inl h) = let p : pos 0 <ℤ c = h.0 in let e : true ≡ lt_z (pos 0) c = omega (arith, ints) in
+    rw (← e) refl
 excludes_from coarse c d (inr h) = by_test (lt_z (pos 0) c)
   where
     by_test : (t : Bool) → cond t true (lt_z d (pos 0)) ≡ true
@@ -124,15 +144,18 @@ excludes_from fine c d (inr h) = by_test (lt_z (pos 0) c)
 
 -- by a divisor on one side of 0
 pub quotient_encloses : (scale : Scale) → (a b c d : ℤ) (i : Interval) → IsOneSided c d
-    → product (between (at_scale scale a) (at_scale scale b)) (between (reciprocal (at_scale scale d)) (reciprocal (at_scale scale c))) ⊆ i
+    → product (between (at_scale scale a) (at_scale scale b))
+    (between (reciprocal (at_scale scale d)) (reciprocal (at_scale scale c))) ⊆ i
     → quotient (between (at_scale scale a) (at_scale scale b)) (between (at_scale scale c) (at_scale scale d)) ⊆ i
 unfolding quotient
 quotient_encloses coarse a b c d i n h = let t = excludes_from coarse c d n in simp t h
 quotient_encloses fine a b c d i n h = let t = excludes_from fine c d n in simp t h
 
 -- the quotients by a divisor above 0
-pub positive_enclosed : (scale : Scale) → (a b c d lo hi : ℤ) (i : Interval) → a ≤ℤ b → pos 0 <ℤ c → c ≤ℤ d → AreQuotientsAt scale a b c d lo hi
-    → ShowsEndpoints scale lo hi i → quotient (between (at_scale scale a) (at_scale scale b)) (between (at_scale scale c) (at_scale scale d)) ⊆ i
+pub positive_enclosed : (scale : Scale) → (a b c d lo hi : ℤ) (i : Interval) → a ≤ℤ b → pos 0 <ℤ c → c ≤ℤ d
+    → AreQuotientsAt scale a b c d lo hi
+    → ShowsEndpoints scale lo hi i → quotient (between (at_scale scale a) (at_scale scale b))
+    (between (at_scale scale c) (at_scale scale d)) ⊆ i
 positive_enclosed coarse a b c d lo hi i o h k q v =
     let e : pos 0 <ℤ d = omega (arith, ints, h, k) in
     let uc = q.under c (≤ℤ_refl c) k in
@@ -175,15 +198,20 @@ positive_enclosed fine a b c d lo hi i o h k q v =
     (kept_within fine lo hi i v))
 
 -- the quotients by a divisor below 0: those of the opposites
-pub negative_enclosed : (scale : Scale) → (a b c d x y z w lo hi : ℤ) (i : Interval) → a ≤ℤ b → d <ℤ pos 0 → c ≤ℤ d → x ≡ pos 0 -ℤ b → y ≡ pos 0 -ℤ a → z
+pub negative_enclosed : (scale : Scale) → (a b c d x y z w lo hi : ℤ) (i : Interval) → a ≤ℤ b → d <ℤ pos 0 → c ≤ℤ d
+    → x ≡ pos 0 -ℤ b → y ≡ pos 0 -ℤ a → z
     ≡ pos 0 -ℤ d → w ≡ pos 0 -ℤ c → AreQuotientsAt scale x y z w lo hi → ShowsEndpoints scale lo hi i
     → quotient (between (at_scale scale a) (at_scale scale b)) (between (at_scale scale c) (at_scale scale d)) ⊆ i
 negative_enclosed coarse a b c d x y z w lo hi i o h k ex ey ez ew q v =
     let e : c <ℤ pos 0 = omega (arith, ints, h, k) in
-    let uc : (lo *ℤ (pos 0 -ℤ c)) ≤ℤ (x *ℤ pos (2 ^ 36)) = rw ew at (q.under w (omega (arith, ints, ez, ew, k)) (≤ℤ_refl w)) in
-    let ud : (lo *ℤ (pos 0 -ℤ d)) ≤ℤ (x *ℤ pos (2 ^ 36)) = rw ez at (q.under z (≤ℤ_refl z) (omega (arith, ints, ez, ew, k))) in
-    let vc : (y *ℤ pos (2 ^ 36)) ≤ℤ (hi *ℤ (pos 0 -ℤ c)) = rw ew at (q.over w (omega (arith, ints, ez, ew, k)) (≤ℤ_refl w)) in
-    let vd : (y *ℤ pos (2 ^ 36)) ≤ℤ (hi *ℤ (pos 0 -ℤ d)) = rw ez at (q.over z (≤ℤ_refl z) (omega (arith, ints, ez, ew, k))) in
+    let uc : (lo *ℤ (pos 0 -ℤ c)) ≤ℤ (x *ℤ pos (2 ^ 36)) =
+    rw ew at (q.under w (omega (arith, ints, ez, ew, k)) (≤ℤ_refl w)) in
+    let ud : (lo *ℤ (pos 0 -ℤ d)) ≤ℤ (x *ℤ pos (2 ^ 36)) =
+    rw ez at (q.under z (≤ℤ_refl z) (omega (arith, ints, ez, ew, k))) in
+    let vc : (y *ℤ pos (2 ^ 36)) ≤ℤ (hi *ℤ (pos 0 -ℤ c)) =
+    rw ew at (q.over w (omega (arith, ints, ez, ew, k)) (≤ℤ_refl w)) in
+    let vd : (y *ℤ pos (2 ^ 36)) ≤ℤ (hi *ℤ (pos 0 -ℤ d)) =
+    rw ez at (q.over z (≤ℤ_refl z) (omega (arith, ints, ez, ew, k))) in
     quotient_encloses coarse a b c d i (inr (e, h))
     (within_trans
     (four_enclose coarse a b (reciprocal (at_scale coarse d)) (reciprocal (at_scale coarse c)) lo hi
@@ -200,10 +228,14 @@ negative_enclosed coarse a b c d x y z w lo hi i o h k ex ey ez ew q v =
     (kept_within coarse lo hi i v))
 negative_enclosed fine a b c d x y z w lo hi i o h k ex ey ez ew q v =
     let e : c <ℤ pos 0 = omega (arith, ints, h, k) in
-    let uc : (lo *ℤ (pos 0 -ℤ c)) ≤ℤ (x *ℤ pos (2 ^ 56)) = rw ew at (q.under w (omega (arith, ints, ez, ew, k)) (≤ℤ_refl w)) in
-    let ud : (lo *ℤ (pos 0 -ℤ d)) ≤ℤ (x *ℤ pos (2 ^ 56)) = rw ez at (q.under z (≤ℤ_refl z) (omega (arith, ints, ez, ew, k))) in
-    let vc : (y *ℤ pos (2 ^ 56)) ≤ℤ (hi *ℤ (pos 0 -ℤ c)) = rw ew at (q.over w (omega (arith, ints, ez, ew, k)) (≤ℤ_refl w)) in
-    let vd : (y *ℤ pos (2 ^ 56)) ≤ℤ (hi *ℤ (pos 0 -ℤ d)) = rw ez at (q.over z (≤ℤ_refl z) (omega (arith, ints, ez, ew, k))) in
+    let uc : (lo *ℤ (pos 0 -ℤ c)) ≤ℤ (x *ℤ pos (2 ^ 56)) =
+    rw ew at (q.under w (omega (arith, ints, ez, ew, k)) (≤ℤ_refl w)) in
+    let ud : (lo *ℤ (pos 0 -ℤ d)) ≤ℤ (x *ℤ pos (2 ^ 56)) =
+    rw ez at (q.under z (≤ℤ_refl z) (omega (arith, ints, ez, ew, k))) in
+    let vc : (y *ℤ pos (2 ^ 56)) ≤ℤ (hi *ℤ (pos 0 -ℤ c)) =
+    rw ew at (q.over w (omega (arith, ints, ez, ew, k)) (≤ℤ_refl w)) in
+    let vd : (y *ℤ pos (2 ^ 56)) ≤ℤ (hi *ℤ (pos 0 -ℤ d)) =
+    rw ez at (q.over z (≤ℤ_refl z) (omega (arith, ints, ez, ew, k))) in
     quotient_encloses fine a b c d i (inr (e, h))
     (within_trans
     (four_enclose fine a b (reciprocal (at_scale fine d)) (reciprocal (at_scale fine c)) lo hi
@@ -247,47 +279,64 @@ unfolding fraction_power times
 square_zero coarse = record { cross = omega (arith, ints) }
 square_zero fine = record { cross = omega (arith, ints) }
 
-square_above : (scale : Scale) → (lo hi : ℤ) → at_square scale (least_square_of lo hi) ≤F least_even (at_scale scale lo) (at_scale scale hi) 2
+square_above : (scale : Scale) → (lo hi : ℤ) → at_square scale (least_square_of lo hi) ≤F least_even (at_scale scale lo)
+    (at_scale scale hi) 2
 unfolding least_even is_at_most
 square_above coarse lo hi =
-    by_test (le_z (pos 0 *ℤ pos (2 ^ 36)) (lo *ℤ pos 1)) (le_z (pos 0) lo) (ap (λ x. le_z (pos 0) x) (mul_one lo)) (le_z (hi *ℤ pos 1) (pos 0 *ℤ pos (2 ^ 36)))
+    by_test (le_z (pos 0 *ℤ pos (2 ^ 36)) (lo *ℤ pos 1)) (le_z (pos 0) lo) (ap (λ x. le_z (pos 0) x) (mul_one lo))
+    (le_z (hi *ℤ pos 1) (pos 0 *ℤ pos (2 ^ 36)))
     (le_z hi (pos 0))
     (ap (λ x. le_z x (pos 0)) (mul_one hi))
   where
-    both : (t u : Bool) → at_square coarse (cond t (lo *ℤ lo) (cond u (hi *ℤ hi) (pos 0))) ≤F cond t (fraction_power (at_scale coarse lo) 2)
+    both : (t u : Bool) → at_square coarse (cond t (lo *ℤ lo) (cond u (hi *ℤ hi) (pos 0))) ≤F cond t
+        (fraction_power (at_scale coarse lo) 2)
         (cond u (fraction_power (at_scale coarse hi) 2) (fraction_power zero_fraction 2))
     both true u = square_over coarse lo (lo *ℤ lo) (≤ℤ_refl _)
     both false true = square_over coarse hi (hi *ℤ hi) (≤ℤ_refl _)
     both false false = square_zero coarse
 
     by_test : (t t' : Bool) → t ≡ t' → (u u' : Bool) → u ≡ u'
-        → at_square coarse (cond t' (lo *ℤ lo) (cond u' (hi *ℤ hi) (pos 0))) ≤F cond t (fraction_power (at_scale coarse lo) 2)
+        → at_square coarse (cond t' (lo *ℤ lo) (cond u' (hi *ℤ hi) (pos 0))) ≤F cond t
+        (fraction_power (at_scale coarse lo) 2)
         (cond u (fraction_power (at_scale coarse hi) 2) (fraction_power zero_fraction 2))
     by_test t t' e u u' f = rw (e, f) (both t' u')
 square_above fine lo hi =
-    by_test (le_z (pos 0 *ℤ pos (2 ^ 56)) (lo *ℤ pos 1)) (le_z (pos 0) lo) (ap (λ x. le_z (pos 0) x) (mul_one lo)) (le_z (hi *ℤ pos 1) (pos 0 *ℤ pos (2 ^ 56)))
+    by_test (le_z (pos 0 *ℤ pos (2 ^ 56)) (lo *ℤ pos 1)) (le_z (pos 0) lo) (ap (λ x. le_z (pos 0) x) (mul_one lo))
+    (le_z (hi *ℤ pos 1) (pos 0 *ℤ pos (2 ^ 56)))
     (le_z hi (pos 0))
     (ap (λ x. le_z x (pos 0)) (mul_one hi))
   where
-    both : (t u : Bool) → at_square fine (cond t (lo *ℤ lo) (cond u (hi *ℤ hi) (pos 0))) ≤F cond t (fraction_power (at_scale fine lo) 2)
+    both : (t u : Bool) → at_square fine (cond t (lo *ℤ lo) (cond u (hi *ℤ hi) (pos 0))) ≤F cond t
+        (fraction_power (at_scale fine lo) 2)
         (cond u (fraction_power (at_scale fine hi) 2) (fraction_power zero_fraction 2))
     both true u = square_over fine lo (lo *ℤ lo) (≤ℤ_refl _)
     both false true = square_over fine hi (hi *ℤ hi) (≤ℤ_refl _)
     both false false = square_zero fine
 
     by_test : (t t' : Bool) → t ≡ t' → (u u' : Bool) → u ≡ u'
-        → at_square fine (cond t' (lo *ℤ lo) (cond u' (hi *ℤ hi) (pos 0))) ≤F cond t (fraction_power (at_scale fine lo) 2)
+        → at_square fine (cond t' (lo *ℤ lo) (cond u' (hi *ℤ hi) (pos 0))) ≤F cond t
+        (fraction_power (at_scale fine lo) 2)
         (cond u (fraction_power (at_scale fine hi) 2) (fraction_power zero_fraction 2))
     by_test t t' e u u' f = rw (e, f) (both t' u')
 
 rounded_within : (scale : Scale) → (l g lo hi : ℤ) → IsFloor lo l (unit scale) → IsCeiling hi g (unit scale)
     → between (at_square scale l) (at_square scale g) ⊆ between (at_scale scale lo) (at_scale scale hi)
 rounded_within coarse l g lo hi f c = record {
-  endpoints = (record { cross = omega (arith, ints, f.not_above) }, record { cross = omega (arith, ints, c.not_below) });
+  endpoints = (
+    record { cross = omega (arith, ints, f.not_above) },
+    record { cross = omega (arith, ints, c.not_below) },
+  );
 }
-rounded_within fine l g lo hi f c = record { endpoints = (record { cross = omega (arith, ints, f.not_above) }, record { cross = omega (arith, ints, c.not_below) }) }
+rounded_within fine l g lo hi f c =
+    record {
+      endpoints = (
+        record { cross = omega (arith, ints, f.not_above) },
+        record { cross = omega (arith, ints, c.not_below) },
+      );
+    }
 
-pub square_encloses : (scale : Scale) → (a b n g lo hi : ℤ) (i : Interval) → n ≡ least_square_of a b → (a *ℤ a) ≤ℤ g → (b *ℤ b) ≤ℤ g → IsFloor lo n (unit scale)
+pub square_encloses : (scale : Scale) → (a b n g lo hi : ℤ) (i : Interval) → n ≡ least_square_of a b → (a *ℤ a) ≤ℤ g
+    → (b *ℤ b) ≤ℤ g → IsFloor lo n (unit scale)
     → IsCeiling hi g (unit scale) → ShowsEndpoints scale lo hi i
     → interval_power (between (at_scale scale a) (at_scale scale b)) 2 ⊆ i
 unfolding interval_power
@@ -300,17 +349,20 @@ square_encloses coarse a b n g lo hi i f h k fl ce kept =
             (fraction_power (at_scale coarse b) 2) (square_under coarse a g h) (square_under coarse b g k),
       );
     })
-    (within_trans (rounded_within coarse (least_square_of a b) g lo hi (subst (λ z. IsFloor lo z (pos (2 ^ 36))) f fl) ce) (kept_within coarse lo hi i kept))
+    (within_trans (rounded_within coarse (least_square_of a b) g lo hi (subst (λ z. IsFloor lo z (pos (2 ^ 36))) f fl)
+    ce) (kept_within coarse lo hi i kept))
 square_encloses fine a b n g lo hi i f h k fl ce kept =
     within_trans
     (record {
       endpoints = (
         square_above fine a b,
-        larger_keeps (λ z. z ≤F at_square fine g) (fraction_power (at_scale fine a) 2) (fraction_power (at_scale fine b) 2)
+        larger_keeps (λ z. z ≤F at_square fine g) (fraction_power (at_scale fine a) 2)
+            (fraction_power (at_scale fine b) 2)
             (square_under fine a g h) (square_under fine b g k),
       );
     })
-    (within_trans (rounded_within fine (least_square_of a b) g lo hi (subst (λ z. IsFloor lo z (pos (2 ^ 56))) f fl) ce) (kept_within fine lo hi i kept))
+    (within_trans (rounded_within fine (least_square_of a b) g lo hi (subst (λ z. IsFloor lo z (pos (2 ^ 56))) f fl) ce)
+    (kept_within fine lo hi i kept))
 
 -- the least square is at most the greatest
 square_z : (x : ℤ) → pos 0 ≤ℤ (x *ℤ x)

@@ -1,15 +1,18 @@
 -- What the operations on endpoints at a scale hold.
 use Rattle.interval_endpoints.specs.Scales.{Scale, coarse, fine, at_scale, at_square, unit}
-use Rattle.std.proofs.Common.{◌≡◌, suc, ◌+◌, ◌^◌, ◌-◌, refl, arith, ℤ, pos, negsuc, ◌+ℤ◌, ◌*ℤ◌, ◌-ℤ◌, ◌≤ℤ◌, [], ◌∷◌, ◌⊎◌, inl, inr}
+use Rattle.std.proofs.Common.{◌≡◌, suc, ◌+◌, ◌^◌, ◌-◌, refl, arith, ℤ, pos, negsuc, ◌+ℤ◌, ◌*ℤ◌, ◌-ℤ◌, ◌≤ℤ◌, [], ◌∷◌}
+use Rattle.std.proofs.Common.{◌⊎◌, inl, inr}
 use lib.IntN.{neg_ℤ}
 use Rattle.std.specs.Prelude.{unsigned_abs}
 use Rattle.std.specs.Int.{int_min, int_max}
 use Rattle.std.proofs.lemmas.Int.{ints}
 use Rattle.book_model.specs.Fraction.{Fraction, ◌≤F◌, plus, opposite, size, times, smaller, larger}
-use Rattle.book_model.specs.Interval.{Interval, everything, between, ◌⊆◌, sum, negative, difference, product, minimum, maximum, hull, widen}
+use Rattle.book_model.specs.Interval.{Interval, everything, between, ◌⊆◌, sum, negative, difference, product, minimum}
+use Rattle.book_model.specs.Interval.{maximum, hull, widen}
 use Rattle.book_model.proofs.Ring.{at, lit, ◌⊕◌, ◌⊖◌, ◌⊗◌, minus}
 use Rattle.book_model.proofs.Bounds.{◌≼◌, known, ◌⊠◌, le_by, pos_nonneg}
-use Rattle.book_model.proofs.Fractions.{le_trans, by_cross, den_product, smaller_keeps, larger_keeps, smaller_first, smaller_second, larger_first, larger_second}
+use Rattle.book_model.proofs.Fractions.{le_trans, by_cross, den_product, smaller_keeps, larger_keeps, smaller_first}
+use Rattle.book_model.proofs.Fractions.{smaller_second, larger_first, larger_second}
 use Rattle.book_model.proofs.Intervals.{within_trans, within_refl, least_is, greatest_is}
 use Rattle.int_division.specs.Rounding.{IsFloor, IsCeiling, IsBelowFour, IsAboveFour}
 use Rattle.interval_endpoints.specs.Rounding.{IsMarginAt, ShowsEndpoints}
@@ -18,23 +21,31 @@ use Rattle.int_division.proofs.Quotients.{≤ℤ_trans}
 
 -- ---- differences and opposites
 -- the endpoints of a difference hold it
-pub difference_encloses : (scale : Scale) → (a b c d lo hi : ℤ) (i : Interval) → lo ≡ a -ℤ d → hi ≡ b -ℤ c → ShowsEndpoints scale lo hi i
+pub difference_encloses : (scale : Scale) → (a b c d lo hi : ℤ) (i : Interval) → lo ≡ a -ℤ d → hi ≡ b -ℤ c
+    → ShowsEndpoints scale lo hi i
     → difference (between (at_scale scale a) (at_scale scale b)) (between (at_scale scale c) (at_scale scale d)) ⊆ i
 unfolding sum negative plus opposite
 -- the endpoints of a difference hold it
 difference_encloses coarse a b c d lo hi i e f h = within_trans
-    (record { endpoints = (record { cross = omega (arith, ints) }, record { cross = omega (arith, ints) }) }) (kept_within coarse lo hi i h)
+    (record { endpoints = (record { cross = omega (arith, ints) }, record { cross = omega (arith, ints) }) })
+    (kept_within coarse lo hi i h)
 difference_encloses fine a b c d lo hi i e f h = within_trans
-    (record { endpoints = (record { cross = omega (arith, ints) }, record { cross = omega (arith, ints) }) }) (kept_within fine lo hi i h)
+    (record { endpoints = (record { cross = omega (arith, ints) }, record { cross = omega (arith, ints) }) })
+    (kept_within fine lo hi i h)
 
 -- the endpoints of an opposite hold it
-pub negative_encloses : (scale : Scale) → (a b lo hi : ℤ) (i : Interval) → lo ≡ pos 0 -ℤ b → hi ≡ pos 0 -ℤ a → ShowsEndpoints scale lo hi i
+pub negative_encloses : (scale : Scale) → (a b lo hi : ℤ) (i : Interval) → lo ≡ pos 0 -ℤ b → hi ≡ pos 0 -ℤ a
+    → ShowsEndpoints scale lo hi i
     → negative (between (at_scale scale a) (at_scale scale b)) ⊆ i
 unfolding negative opposite
 -- the endpoints of an opposite hold it
-negative_encloses coarse a b lo hi i e f h = within_trans (record { endpoints = (record { cross = omega (arith, ints) }, record { cross = omega (arith, ints) }) })
+negative_encloses coarse a b lo hi i e f h =
+    within_trans
+    (record { endpoints = (record { cross = omega (arith, ints) }, record { cross = omega (arith, ints) }) })
     (kept_within coarse lo hi i h)
-negative_encloses fine a b lo hi i e f h = within_trans (record { endpoints = (record { cross = omega (arith, ints) }, record { cross = omega (arith, ints) }) })
+negative_encloses fine a b lo hi i e f h =
+    within_trans
+    (record { endpoints = (record { cross = omega (arith, ints) }, record { cross = omega (arith, ints) }) })
     (kept_within fine lo hi i h)
 
 -- ---- products
@@ -58,12 +69,22 @@ rounded_within : (scale : Scale) → (l g lo hi : ℤ) → IsFloor lo l (unit sc
     → between (at_square scale l) (at_square scale g) ⊆ between (at_scale scale lo) (at_scale scale hi)
 -- rounding outwards holds
 rounded_within coarse l g lo hi f c = record {
-  endpoints = (record { cross = omega (arith, ints, f.not_above) }, record { cross = omega (arith, ints, c.not_below) });
+  endpoints = (
+    record { cross = omega (arith, ints, f.not_above) },
+    record { cross = omega (arith, ints, c.not_below) },
+  );
 }
-rounded_within fine l g lo hi f c = record { endpoints = (record { cross = omega (arith, ints, f.not_above) }, record { cross = omega (arith, ints, c.not_below) }) }
+rounded_within fine l g lo hi f c =
+    record {
+      endpoints = (
+        record { cross = omega (arith, ints, f.not_above) },
+        record { cross = omega (arith, ints, c.not_below) },
+      );
+    }
 
 -- the endpoints of a product, rounded outwards, hold it
-pub product_encloses : (scale : Scale) → (x y x' y' l g lo hi : ℤ) (i : Interval) → IsBelowFour l (x *ℤ x') (x *ℤ y') (y *ℤ x') (y *ℤ y')
+pub product_encloses : (scale : Scale) → (x y x' y' l g lo hi : ℤ) (i : Interval)
+    → IsBelowFour l (x *ℤ x') (x *ℤ y') (y *ℤ x') (y *ℤ y')
     → IsAboveFour g (x *ℤ x') (x *ℤ y') (y *ℤ x') (y *ℤ y')
     → IsFloor lo l (unit scale) → IsCeiling hi g (unit scale) → ShowsEndpoints scale lo hi i
     → product (between (at_scale scale x) (at_scale scale y)) (between (at_scale scale x') (at_scale scale y')) ⊆ i
@@ -72,8 +93,10 @@ product_encloses scale x y x' y' l g lo hi i b a f c k =
     within_trans
     (record {
       endpoints = (
-        least_is (at_square scale l) _ _ _ _ (over scale l x x' b.first) (over scale l x y' b.second) (over scale l y x' b.third) (over scale l y y' b.fourth),
-        greatest_is (at_square scale g) _ _ _ _ (under scale g x x' a.first) (under scale g x y' a.second) (under scale g y x' a.third)
+        least_is (at_square scale l) _ _ _ _ (over scale l x x' b.first) (over scale l x y' b.second)
+            (over scale l y x' b.third) (over scale l y y' b.fourth),
+        greatest_is (at_square scale g) _ _ _ _ (under scale g x x' a.first) (under scale g x y' a.second)
+            (under scale g y x' a.third)
             (under scale g y y' a.fourth),
       );
     })
@@ -112,12 +135,15 @@ greater : (m p q : ℤ) → m ≡ int_max p q → IsGreater m p q
 greater m p q e = record { first = grind (arith, ints); second = grind (arith, ints); one = grind (arith, ints) }
 
 -- the lesser number is at most the smaller fraction
-below_smaller : (scale : Scale) → (m p q : ℤ) → m ≡ int_min p q → at_scale scale m ≤F smaller (at_scale scale p) (at_scale scale q)
-below_smaller scale m p q e = let l = lesser m p q e in smaller_keeps (λ z. at_scale scale m ≤F z) (at_scale scale p) (at_scale scale q)
+below_smaller : (scale : Scale) → (m p q : ℤ) → m ≡ int_min p q → at_scale scale m ≤F smaller (at_scale scale p)
+    (at_scale scale q)
+below_smaller scale m p q e = let l = lesser m p q e in smaller_keeps (λ z. at_scale scale m ≤F z) (at_scale scale p)
+    (at_scale scale q)
     (at_mono scale m p l.first) (at_mono scale m q l.second)
 
 -- the lesser number is at least the smaller fraction
-above_smaller : (scale : Scale) → (m p q : ℤ) → m ≡ int_min p q → smaller (at_scale scale p) (at_scale scale q) ≤F at_scale scale m
+above_smaller : (scale : Scale) → (m p q : ℤ) → m ≡ int_min p q → smaller (at_scale scale p) (at_scale scale q) ≤F
+    at_scale scale m
 above_smaller scale m p q e =
     let l = lesser m p q e in
     elim l.one [
@@ -126,12 +152,15 @@ above_smaller scale m p q e =
     ]
 
 -- the greater number is at least the larger fraction
-above_larger : (scale : Scale) → (m p q : ℤ) → m ≡ int_max p q → larger (at_scale scale p) (at_scale scale q) ≤F at_scale scale m
-above_larger scale m p q e = let l = greater m p q e in larger_keeps (λ z. z ≤F at_scale scale m) (at_scale scale p) (at_scale scale q)
+above_larger : (scale : Scale) → (m p q : ℤ) → m ≡ int_max p q → larger (at_scale scale p) (at_scale scale q) ≤F
+    at_scale scale m
+above_larger scale m p q e = let l = greater m p q e in larger_keeps (λ z. z ≤F at_scale scale m) (at_scale scale p)
+    (at_scale scale q)
     (at_mono scale p m l.first) (at_mono scale q m l.second)
 
 -- the greater number is at most the larger fraction
-below_larger : (scale : Scale) → (m p q : ℤ) → m ≡ int_max p q → at_scale scale m ≤F larger (at_scale scale p) (at_scale scale q)
+below_larger : (scale : Scale) → (m p q : ℤ) → m ≡ int_max p q → at_scale scale m ≤F larger (at_scale scale p)
+    (at_scale scale q)
 below_larger scale m p q e =
     let l = greater m p q e in
     elim l.one [
@@ -219,24 +248,31 @@ hull_second a b = within_refl everything
 
 -- ---- widening
 -- a lower endpoint moved by what covers n / d
-lower_z : (a m n d k : ℤ) → pos 0 ≤ℤ k → (n *ℤ k) ≤ℤ (m *ℤ d) → ((a -ℤ m) *ℤ (k *ℤ d)) ≤ℤ ((a *ℤ d +ℤ neg_ℤ n *ℤ k) *ℤ k)
+lower_z : (a m n d k : ℤ) → pos 0 ≤ℤ k → (n *ℤ k) ≤ℤ (m *ℤ d)
+    → ((a -ℤ m) *ℤ (k *ℤ d)) ≤ℤ ((a *ℤ d +ℤ neg_ℤ n *ℤ k) *ℤ k)
 lower_z a m n d k p h =
-    le_by (a ∷ m ∷ n ∷ d ∷ k ∷ []) ((lit (pos 0) ≼ at 4) ∷ (at 2 ⊗ at 4 ≼ at 1 ⊗ at 3) ∷ []) ((at 0 ⊖ at 1) ⊗ (at 4 ⊗ at 3))
+    le_by (a ∷ m ∷ n ∷ d ∷ k ∷ []) ((lit (pos 0) ≼ at 4) ∷ (at 2 ⊗ at 4 ≼ at 1 ⊗ at 3) ∷ [])
+    ((at 0 ⊖ at 1) ⊗ (at 4 ⊗ at 3))
     ((at 0 ⊗ at 3 ⊕ minus (at 2) ⊗ at 4) ⊗ at 4) (known 0 ⊠ known 1) refl (p, (h, tt))
 
 -- an upper endpoint moved by what covers n / d
 upper_z : (a m n d k : ℤ) → pos 0 ≤ℤ k → (n *ℤ k) ≤ℤ (m *ℤ d) → ((a *ℤ d +ℤ n *ℤ k) *ℤ k) ≤ℤ ((a +ℤ m) *ℤ (k *ℤ d))
 upper_z a m n d k p h =
-    le_by (a ∷ m ∷ n ∷ d ∷ k ∷ []) ((lit (pos 0) ≼ at 4) ∷ (at 2 ⊗ at 4 ≼ at 1 ⊗ at 3) ∷ []) ((at 0 ⊗ at 3 ⊕ at 2 ⊗ at 4) ⊗ at 4)
+    le_by (a ∷ m ∷ n ∷ d ∷ k ∷ []) ((lit (pos 0) ≼ at 4) ∷ (at 2 ⊗ at 4 ≼ at 1 ⊗ at 3) ∷ [])
+    ((at 0 ⊗ at 3 ⊕ at 2 ⊗ at 4) ⊗ at 4)
     ((at 0 ⊕ at 1) ⊗ (at 4 ⊗ at 3)) (known 0 ⊠ known 1) refl (p, (h, tt))
 
 -- what a margin covers
-covers : (scale : Scale) → (f : Fraction) (m : ℤ) → IsMarginAt scale f m → (pos (unsigned_abs f.num) *ℤ (unit scale)) ≤ℤ (m *ℤ pos (suc f.below))
-covers coarse f m h = let r = h.rounded.not_below in let e : pos (f.below + 1) ≡ pos (suc f.below) = omega (arith, ints) in rw e at r
-covers fine f m h = let r = h.rounded.not_below in let e : pos (f.below + 1) ≡ pos (suc f.below) = omega (arith, ints) in rw e at r
+covers : (scale : Scale) → (f : Fraction) (m : ℤ) → IsMarginAt scale f m → (pos (unsigned_abs f.num) *ℤ (unit scale))
+    ≤ℤ (m *ℤ pos (suc f.below))
+covers coarse f m h = let r = h.rounded.not_below in let e : pos (f.below + 1) ≡ pos (suc f.below) =
+    omega (arith, ints) in rw e at r
+covers fine f m h = let r = h.rounded.not_below in let e : pos (f.below + 1) ≡ pos (suc f.below) =
+    omega (arith, ints) in rw e at r
 
 -- endpoints moved outwards by a margin hold the widening
-pub widen_encloses : (scale : Scale) → (f : Fraction) (a b m lo hi : ℤ) (i : Interval) → IsMarginAt scale f m → lo ≡ a -ℤ m → hi ≡ b +ℤ m
+pub widen_encloses : (scale : Scale) → (f : Fraction) (a b m lo hi : ℤ) (i : Interval) → IsMarginAt scale f m
+    → lo ≡ a -ℤ m → hi ≡ b +ℤ m
     → ShowsEndpoints scale lo hi i → widen f (between (at_scale scale a) (at_scale scale b)) ⊆ i
 unfolding widen plus opposite size
 widen_encloses coarse f a b m lo hi i h el eh k =
@@ -244,9 +280,11 @@ widen_encloses coarse f a b m lo hi i h el eh k =
     within_trans
     (record {
       endpoints = (
-        by_cross (at_scale coarse lo) _ (pos (2 ^ 36)) (pos (2 ^ 36) *ℤ pos (suc f.below)) refl (den_product (2 ^ 36 - 1) f.below)
+        by_cross (at_scale coarse lo) _ (pos (2 ^ 36)) (pos (2 ^ 36) *ℤ pos (suc f.below)) refl
+            (den_product (2 ^ 36 - 1) f.below)
             (rw el (lower_z a m (pos (unsigned_abs f.num)) (pos (suc f.below)) (pos (2 ^ 36)) (pos_nonneg (2 ^ 36)) c)),
-        by_cross _ (at_scale coarse hi) (pos (2 ^ 36) *ℤ pos (suc f.below)) (pos (2 ^ 36)) (den_product (2 ^ 36 - 1) f.below) refl
+        by_cross _ (at_scale coarse hi) (pos (2 ^ 36) *ℤ pos (suc f.below)) (pos (2 ^ 36))
+            (den_product (2 ^ 36 - 1) f.below) refl
             (rw eh (upper_z b m (pos (unsigned_abs f.num)) (pos (suc f.below)) (pos (2 ^ 36)) (pos_nonneg (2 ^ 36)) c)),
       );
     })
@@ -256,9 +294,11 @@ widen_encloses fine f a b m lo hi i h el eh k =
     within_trans
     (record {
       endpoints = (
-        by_cross (at_scale fine lo) _ (pos (2 ^ 56)) (pos (2 ^ 56) *ℤ pos (suc f.below)) refl (den_product (2 ^ 56 - 1) f.below)
+        by_cross (at_scale fine lo) _ (pos (2 ^ 56)) (pos (2 ^ 56) *ℤ pos (suc f.below)) refl
+            (den_product (2 ^ 56 - 1) f.below)
             (rw el (lower_z a m (pos (unsigned_abs f.num)) (pos (suc f.below)) (pos (2 ^ 56)) (pos_nonneg (2 ^ 56)) c)),
-        by_cross _ (at_scale fine hi) (pos (2 ^ 56) *ℤ pos (suc f.below)) (pos (2 ^ 56)) (den_product (2 ^ 56 - 1) f.below) refl
+        by_cross _ (at_scale fine hi) (pos (2 ^ 56) *ℤ pos (suc f.below)) (pos (2 ^ 56))
+            (den_product (2 ^ 56 - 1) f.below) refl
             (rw eh (upper_z b m (pos (unsigned_abs f.num)) (pos (suc f.below)) (pos (2 ^ 56)) (pos_nonneg (2 ^ 56)) c)),
       );
     })

@@ -13,7 +13,8 @@ pub record AreLowered (z whole end : ℤ) : Type 0 where
   pub sum : SFits w128 ((whole -ℤ z) *ℤ pos (2 ^ 56) +ℤ (end -ℤ whole *ℤ pos (2 ^ 56)))
   pub same : ((whole -ℤ z) *ℤ pos (2 ^ 56) +ℤ (end -ℤ whole *ℤ pos (2 ^ 56))) ≡ end -ℤ z *ℤ pos (2 ^ 56)
 
-pub are_lowered : (z whole end : ℤ) (m : ℕ) → SFits w128 end → (whole *ℤ pos (2 ^ 56)) ≤ℤ end → end <ℤ ((whole +ℤ pos 1) *ℤ pos (2 ^ 56)) → (z *ℤ pos (2 ^ 56))
+pub are_lowered : (z whole end : ℤ) (m : ℕ) → SFits w128 end → (whole *ℤ pos (2 ^ 56)) ≤ℤ end
+    → end <ℤ ((whole +ℤ pos 1) *ℤ pos (2 ^ 56)) → (z *ℤ pos (2 ^ 56))
     ≤ℤ end → end <ℤ ((z +ℤ pos m) *ℤ pos (2 ^ 56)) → m < 2 ^ 32 → AreLowered z whole end
 are_lowered z whole end m f a b c d l = record {
   begun = omega (arith, ints, f, a, b, c, d, l);
@@ -31,5 +32,10 @@ pub record AreBegun (z end : ℤ) : Type 0 where
   pub raised : SFits w128 (z *ℤ pos (2 ^ 36))
   pub rest : SFits w128 (end -ℤ z *ℤ pos (2 ^ 36))
 
-pub are_begun : (z end : ℤ) (m : ℕ) → SFits w64 end → (z *ℤ pos (2 ^ 36)) ≤ℤ end → end <ℤ ((z +ℤ pos m) *ℤ pos (2 ^ 36)) → m < 2 ^ 32 → AreBegun z end
-are_begun z end m f c d l = record { begun = omega (arith, ints, f, c, d, l); raised = omega (arith, ints, f, c, d, l); rest = omega (arith, ints, f, c, d, l) }
+pub are_begun : (z end : ℤ) (m : ℕ) → SFits w64 end → (z *ℤ pos (2 ^ 36)) ≤ℤ end → end <ℤ ((z +ℤ pos m) *ℤ pos (2 ^ 36))
+    → m < 2 ^ 32 → AreBegun z end
+are_begun z end m f c d l = record {
+  begun = omega (arith, ints, f, c, d, l);
+  raised = omega (arith, ints, f, c, d, l);
+  rest = omega (arith, ints, f, c, d, l);
+}

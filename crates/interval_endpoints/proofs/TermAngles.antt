@@ -43,10 +43,12 @@ unfolding plus times
 angle_below phase rate z hi h = record { cross = omega (arith, ints, h) }
 
 pub turned_order : (phase rate x y p q m g lo hi : ℤ) → AreTurned phase rate x y p q m g lo hi → lo ≤ℤ hi
-turned_order phase rate x y p q m g lo hi t = outward_order m g D lo hi (sorted_order m g p q t.order) t.down t.up (omega (arith, ints))
+turned_order phase rate x y p q m g lo hi t = outward_order m g D lo hi (sorted_order m g p q t.order) t.down t.up
+    (omega (arith, ints))
 
 -- the endpoints hold the angle
-pub turned_encloses : (phase rate x y p q m g lo hi : ℤ) (i : Interval) → AreTurned phase rate x y p q m g lo hi → Keeps64 lo hi i
+pub turned_encloses : (phase rate x y p q m g lo hi : ℤ) (i : Interval) → AreTurned phase rate x y p q m g lo hi
+    → Keeps64 lo hi i
     → sum (between (ten_millionths phase) (ten_millionths phase))
     (product (between (at_36 x) (at_36 y)) (between (daily_ten_millionths rate) (daily_ten_millionths rate))) ⊆ i
 unfolding sum product
@@ -54,11 +56,16 @@ turned_encloses phase rate x y p q m g lo hi i t k =
     let f = ten_millionths phase in
     let L : Fraction → Type 0 = λ z. at_36 lo ≤F plus f z in
     let U : Fraction → Type 0 = λ z. plus f z ≤F at_36 hi in
-    let lx : at_36 lo ≤F at_angle phase rate x = angle_above phase rate x lo (omega (arith, ints, t.down.not_above, t.order.low_first, t.first)) in
-    let ly : at_36 lo ≤F at_angle phase rate y = angle_above phase rate y lo (omega (arith, ints, t.down.not_above, t.order.low_second, t.second)) in
-    let ux : at_angle phase rate x ≤F at_36 hi = angle_below phase rate x hi (omega (arith, ints, t.up.not_below, t.order.high_first, t.first)) in
-    let uy : at_angle phase rate y ≤F at_36 hi = angle_below phase rate y hi (omega (arith, ints, t.up.not_below, t.order.high_second, t.second)) in
-    within_trans (record { endpoints = (least_keeps L _ _ _ _ lx lx ly ly, greatest_keeps U _ _ _ _ ux ux uy uy) }) (kept_within coarse lo hi i k)
+    let lx : at_36 lo ≤F at_angle phase rate x = angle_above phase rate x lo
+    (omega (arith, ints, t.down.not_above, t.order.low_first, t.first)) in
+    let ly : at_36 lo ≤F at_angle phase rate y = angle_above phase rate y lo
+    (omega (arith, ints, t.down.not_above, t.order.low_second, t.second)) in
+    let ux : at_angle phase rate x ≤F at_36 hi = angle_below phase rate x hi
+    (omega (arith, ints, t.up.not_below, t.order.high_first, t.first)) in
+    let uy : at_angle phase rate y ≤F at_36 hi = angle_below phase rate y hi
+    (omega (arith, ints, t.up.not_below, t.order.high_second, t.second)) in
+    within_trans (record { endpoints = (least_keeps L _ _ _ _ lx lx ly ly, greatest_keeps U _ _ _ _ ux ux uy uy) })
+    (kept_within coarse lo hi i k)
 
 -- ---- no wider than the phase and the product apart
 phase_ceiling : (n f : ℤ) → IsFloor f (neg_ℤ n) (pos 10000000) → IsCeiling (neg_ℤ f) n (pos 10000000)
@@ -78,24 +85,32 @@ sorted_by p q = record {
 }
 
 -- the two quotients, each rounded, lie further out than that of the sum
-inner_low : (phase P m l c lo : ℤ) → (l *ℤ pos 10000000) ≤ℤ (phase *ℤ pos (2 ^ 36)) → (c *ℤ D) ≤ℤ P → (phase *ℤ K +ℤ P) ≤ℤ m → m <ℤ (lo *ℤ D +ℤ D) → (l +ℤ c)
+inner_low : (phase P m l c lo : ℤ) → (l *ℤ pos 10000000) ≤ℤ (phase *ℤ pos (2 ^ 36)) → (c *ℤ D) ≤ℤ P
+    → (phase *ℤ K +ℤ P) ≤ℤ m → m <ℤ (lo *ℤ D +ℤ D) → (l +ℤ c)
     ≤ℤ lo
 inner_low phase P m l c lo h j e f = omega (arith, ints, h, j, e, f)
 
-inner_high : (phase P g u c hi : ℤ) → (phase *ℤ pos (2 ^ 36)) ≤ℤ (u *ℤ pos 10000000) → P ≤ℤ (c *ℤ D) → g ≤ℤ (phase *ℤ K +ℤ P) → (hi *ℤ D) <ℤ (g +ℤ D) → hi
+inner_high : (phase P g u c hi : ℤ) → (phase *ℤ pos (2 ^ 36)) ≤ℤ (u *ℤ pos 10000000) → P ≤ℤ (c *ℤ D)
+    → g ≤ℤ (phase *ℤ K +ℤ P) → (hi *ℤ D) <ℤ (g +ℤ D) → hi
     ≤ℤ (u +ℤ c)
 inner_high phase P g u c hi h j e f = omega (arith, ints, h, j, e, f)
 
-least_turned : (phase rate x y p q m g lo hi : ℤ) → AreTurned phase rate x y p q m g lo hi → (phase *ℤ K +ℤ int_min (x *ℤ rate) (y *ℤ rate)) ≤ℤ m
-least_turned phase rate x y p q m g lo hi t = t.order.best_low _ (omega (arith, ints, clamps, t.first)) (omega (arith, ints, clamps, t.second))
+least_turned : (phase rate x y p q m g lo hi : ℤ) → AreTurned phase rate x y p q m g lo hi
+    → (phase *ℤ K +ℤ int_min (x *ℤ rate) (y *ℤ rate)) ≤ℤ m
+least_turned phase rate x y p q m g lo hi t = t.order.best_low _ (omega (arith, ints, clamps, t.first))
+    (omega (arith, ints, clamps, t.second))
 
-greatest_turned : (phase rate x y p q m g lo hi : ℤ) → AreTurned phase rate x y p q m g lo hi → g ≤ℤ (phase *ℤ K +ℤ int_max (x *ℤ rate) (y *ℤ rate))
-greatest_turned phase rate x y p q m g lo hi t = t.order.best_high _ (omega (arith, ints, clamps, t.first)) (omega (arith, ints, clamps, t.second))
+greatest_turned : (phase rate x y p q m g lo hi : ℤ) → AreTurned phase rate x y p q m g lo hi
+    → g ≤ℤ (phase *ℤ K +ℤ int_max (x *ℤ rate) (y *ℤ rate))
+greatest_turned phase rate x y p q m g lo hi t = t.order.best_high _ (omega (arith, ints, clamps, t.first))
+    (omega (arith, ints, clamps, t.second))
 
 -- the endpoints keep the bound of the phase and the product
-pub turned_narrow : (w : ℕ) (a : Bound) (phase rate x y p q m g lo hi : ℤ) (i : Interval) → AreTurned phase rate x y p q m g lo hi → Keeps64 lo hi i
+pub turned_narrow : (w : ℕ) (a : Bound) (phase rate x y p q m g lo hi : ℤ) (i : Interval)
+    → AreTurned phase rate x y p q m g lo hi → Keeps64 lo hi i
     → IsNarrow w a (between (at_36 x) (at_36 y))
-    → IsNarrow w (sum_bound limits_36 (constant_bound limits_36 (ten_millionths phase)) (scaled_bound limits_36 (daily_ten_millionths rate) a)) i
+    → IsNarrow w (sum_bound limits_36 (constant_bound limits_36 (ten_millionths phase))
+    (scaled_bound limits_36 (daily_ten_millionths rate) a)) i
 turned_narrow w a phase rate x y p q m g lo hi i t k h =
     let n = phase *ℤ pos (2 ^ 36) in
     let least = int_min (x *ℤ rate) (y *ℤ rate) in
@@ -108,10 +123,21 @@ turned_narrow w a phase rate x y p q m g lo hi i t k h =
     let fu = phase_ceiling n _ (floor_quotient_floor (neg_ℤ n) 9999999) in
     let fc = floor_quotient_floor least 365249999999 in
     let fe = rate_ceiling most _ (floor_quotient_floor (neg_ℤ most) 365249999999) in
-    let s : AreScaled (daily_ten_millionths rate) x y rate (x *ℤ rate) (y *ℤ rate) least most D c e = record
-    { numerator = refl; first = refl; second = refl; denominator = refl; order = sorted_by (x *ℤ rate) (y *ℤ rate); down = fc; up = fe } in
-    let kc = constant_narrow coarse (ten_millionths phase) w n l u (pos 10000000) (between (at_36 l) (at_36 u)) refl refl fl fu fitting in
-    let ks = scaled_narrow coarse w a (daily_ten_millionths rate) x y rate (x *ℤ rate) (y *ℤ rate) least most D c e (between (at_36 c) (at_36 e)) s fitting h in
+    let s : AreScaled (daily_ten_millionths rate) x y rate (x *ℤ rate) (y *ℤ rate) least most D c e = record {
+      numerator = refl;
+      first = refl;
+      second = refl;
+      denominator = refl;
+      order = sorted_by (x *ℤ rate) (y *ℤ rate);
+      down = fc;
+      up = fe;
+    } in
+    let kc = constant_narrow coarse (ten_millionths phase) w n l u (pos 10000000) (between (at_36 l) (at_36 u)) refl
+    refl fl fu fitting in
+    let ks = scaled_narrow coarse w a (daily_ten_millionths rate) x y rate (x *ℤ rate) (y *ℤ rate) least most D c e
+    (between (at_36 c) (at_36 e)) s fitting h in
     sum_narrow_inner coarse w _ _ l u c e lo hi i (turned_order phase rate x y p q m g lo hi t)
-    (inner_low phase least m l c lo fl.not_above fc.not_above (least_turned phase rate x y p q m g lo hi t) t.down.close)
-    (inner_high phase most g u e hi fu.not_below fe.not_below (greatest_turned phase rate x y p q m g lo hi t) t.up.close) k kc ks
+    (inner_low phase least m l c lo fl.not_above fc.not_above (least_turned phase rate x y p q m g lo hi t)
+    t.down.close)
+    (inner_high phase most g u e hi fu.not_below fe.not_below (greatest_turned phase rate x y p q m g lo hi t)
+    t.up.close) k kc ks

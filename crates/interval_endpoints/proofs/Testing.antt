@@ -1,6 +1,7 @@
 -- The tests at endpoints of a scale.
 use Rattle.interval_endpoints.specs.Scales.{Scale, coarse, fine, at_scale, below, finer_units}
-use Rattle.std.proofs.Common.{◌≡◌, ◌^◌, ◌-◌, refl, sym, ◌∙◌, arith, Bool, true, false, ℤ, pos, negsuc, ◌*ℤ◌, ◌≤ℤ◌, ◌<ℤ◌, Some, None}
+use Rattle.std.proofs.Common.{◌≡◌, ◌^◌, ◌-◌, refl, sym, ◌∙◌, arith, Bool, true, false, ℤ, pos, negsuc, ◌*ℤ◌, ◌≤ℤ◌, ◌<ℤ◌}
+use Rattle.std.proofs.Common.{Some, None}
 use Rattle.std.specs.Ordering.{int_eq}
 use Rattle.std.proofs.lemmas.Int.{ints}
 use Rattle.std.proofs.lemmas.Bool.Decides.{Decides-int_eq}
@@ -12,10 +13,13 @@ use Rattle.book_model.specs.programs.Programs.{integers, cell_of, cell_at, compa
 use Rattle.book_model.specs.programs.Leading.{AreEndpoints, bounds, no_bounds, IsUndecidedComparison}
 
 -- the bounds of an undecided test, at its finer scale
-pub endpoints_between : (scale : Scale) → (a b lo hi : ℤ) → lo ≡ a *ℤ (finer_units scale) → hi ≡ b *ℤ (finer_units scale)
+pub endpoints_between : (scale : Scale) → (a b lo hi : ℤ) → lo ≡ a *ℤ (finer_units scale)
+    → hi ≡ b *ℤ (finer_units scale)
     → AreEndpoints lo hi (between (at_scale scale a) (at_scale scale b))
-endpoints_between coarse a b lo hi e f = bounds (record { cross = omega (arith, ints) }) (record { cross = omega (arith, ints) })
-endpoints_between fine a b lo hi e f = bounds (record { cross = omega (arith, ints) }) (record { cross = omega (arith, ints) })
+endpoints_between coarse a b lo hi e f = bounds (record { cross = omega (arith, ints) })
+    (record { cross = omega (arith, ints) })
+endpoints_between fine a b lo hi e f = bounds (record { cross = omega (arith, ints) })
+    (record { cross = omega (arith, ints) })
 
 -- an undecided test of everything has no bounds
 pub endpoints_everything : AreEndpoints (negsuc (2 ^ 127 - 1)) (pos (2 ^ 127 - 1)) everything
@@ -34,7 +38,8 @@ eq_no p q n = by_test _ refl
     by_test true e = absurd (n ((Decides-int_eq p q).0 e))
 
 -- both endpoints are in one cell
-pub cell_same : (scale : Scale) → (a b p q r : ℤ) → p ≡ floor_quotient a ((below scale)) → q ≡ floor_quotient b ((below scale)) → p ≡ q → r ≡ p → Some r
+pub cell_same : (scale : Scale) → (a b p q r : ℤ) → p ≡ floor_quotient a ((below scale))
+    → q ≡ floor_quotient b ((below scale)) → p ≡ q → r ≡ p → Some r
     ≡ cell_at integers (between (at_scale scale a) (at_scale scale b))
 unfolding cell_at cell_of
 cell_same coarse a b p q r e f h k =
@@ -45,7 +50,8 @@ cell_same fine a b p q r e f h k =
     rw (t, k, e) refl
 
 -- the endpoints are in different cells
-pub cell_apart : (scale : Scale) → (a b p q : ℤ) → p ≡ floor_quotient a ((below scale)) → q ≡ floor_quotient b ((below scale)) → (p ≡ q → ⊥) → None
+pub cell_apart : (scale : Scale) → (a b p q : ℤ) → p ≡ floor_quotient a ((below scale))
+    → q ≡ floor_quotient b ((below scale)) → (p ≡ q → ⊥) → None
     ≡ cell_at integers (between (at_scale scale a) (at_scale scale b))
 unfolding cell_at cell_of
 cell_apart coarse a b p q e f n =
@@ -122,12 +128,18 @@ order_second a b = refl
 
 -- the endpoints of an interval are those of one that it holds and that holds it
 endpoints_of_same : (lo hi : ℤ) (i j : Interval) → AreEndpoints lo hi i → i ⊆ j → j ⊆ i → AreEndpoints lo hi j
-endpoints_of_same lo hi (between a b) (between c d) (bounds e f) h k = bounds (same_trans e (same_of_le k.endpoints.0 h.endpoints.0))
+endpoints_of_same lo hi (between a b) (between c d) (bounds e f) h k =
+    bounds (same_trans e (same_of_le k.endpoints.0 h.endpoints.0))
     (same_trans f (same_of_le h.endpoints.1 k.endpoints.1))
 endpoints_of_same lo hi everything everything (no_bounds e) h k = no_bounds e
 endpoints_of_same lo hi (between a b) everything (bounds e f) h k = absurd k.endpoints
 endpoints_of_same lo hi everything (between c d) (no_bounds e) h k = absurd h.endpoints
 
 -- an undecided comparison, by the hull of its sides
-pub undecided_comparison : (i j k : Interval) (lo hi : ℤ) → None ≡ compare_at i j → AreEndpoints lo hi k → hull i j ⊆ k → k ⊆ hull i j → IsUndecidedComparison i j lo hi
-undecided_comparison i j k lo hi e h there back = record { open_there = sym e; endpoints = endpoints_of_same lo hi k (hull i j) h back there }
+pub undecided_comparison : (i j k : Interval) (lo hi : ℤ) → None ≡ compare_at i j → AreEndpoints lo hi k → hull i j ⊆ k
+    → k ⊆ hull i j → IsUndecidedComparison i j lo hi
+undecided_comparison i j k lo hi e h there back = record {
+  open_there = sym e;
+  endpoints = endpoints_of_same lo hi k
+      (hull i j) h back there;
+}

@@ -5,15 +5,22 @@ use Rattle.std.proofs.lemmas.Int.{ints}
 use Rattle.book_model.specs.Fraction.{Fraction}
 use Rattle.book_model.specs.Interval.{Interval, between, ◌⊆◌}
 use Rattle.book_model.proofs.Intervals.{within_trans}
-use Rattle.book_model.specs.numbers.Expressions.{Expression, integer, constant, add, subtract, multiply, divide, power, negate, scale, widen, root, remainder}
-use Rattle.book_model.specs.numbers.Bounds.{Bound, unbounded, bounded, Reach, IsNarrow, bound_of, integer_bound, constant_bound, sum_bound, scaled_bound, difference_bound, product_bound, square_bound, power_bound, quotient_bound, negated_bound, spanned_bound, widen_bound, root_bound, remainder_bound, limits_of, no_limits}
+use Rattle.book_model.specs.numbers.Expressions.{Expression, integer, constant, add, subtract, multiply, divide, power}
+use Rattle.book_model.specs.numbers.Expressions.{negate, scale, widen, root, remainder}
+use Rattle.book_model.specs.numbers.Bounds.{Bound, unbounded, bounded, Reach, IsNarrow, bound_of, integer_bound}
+use Rattle.book_model.specs.numbers.Bounds.{constant_bound, sum_bound, scaled_bound, difference_bound, product_bound}
+use Rattle.book_model.specs.numbers.Bounds.{square_bound, power_bound, quotient_bound, negated_bound, spanned_bound}
+use Rattle.book_model.specs.numbers.Bounds.{widen_bound, root_bound, remainder_bound, limits_of, no_limits}
 use Rattle.book_model.specs.numbers.Relations.{Narrow, Keeps}
 use Rattle.interval_endpoints.specs.Rounding.{at_36, Keeps64}
 use Rattle.interval_endpoints.proofs.Keeping.{kept_within}
 
 -- endpoints that are further out hold what lies between two
-pub moved_outwards : (a b lo hi : ℤ) (i : Interval) → lo ≤ℤ a → b ≤ℤ hi → Keeps64 lo hi i → between (at_36 a) (at_36 b) ⊆ i
-moved_outwards a b lo hi i l h k = within_trans (record { endpoints = (record { cross = omega (arith, ints, l) }, record { cross = omega (arith, ints, h) }) })
+pub moved_outwards : (a b lo hi : ℤ) (i : Interval) → lo ≤ℤ a → b ≤ℤ hi → Keeps64 lo hi i
+    → between (at_36 a) (at_36 b) ⊆ i
+moved_outwards a b lo hi i l h k =
+    within_trans
+    (record { endpoints = (record { cross = omega (arith, ints, l) }, record { cross = omega (arith, ints, h) }) })
     (kept_within _ lo hi i k)
 
 -- ---- where no limit is kept, no width is promised
@@ -90,47 +97,58 @@ spanned_none w unbounded i = tt
 spanned_none w (bounded a c s k) i = rw leb-suc-zero tt
 
 -- ---- the same of expressions, at scale 2^-8
-pub narrow_integer : {E : Type 0} (shown : E → Interval) (r : Reach) (n : ℤ) (e : E) → Narrow shown (limits_of 8) r (integer n) e
+pub narrow_integer : {E : Type 0} (shown : E → Interval) (r : Reach) (n : ℤ) (e : E)
+    → Narrow shown (limits_of 8) r (integer n) e
 unfolding Keeps bound_of limits_of
 narrow_integer shown r n e = record { kept = integer_none r.width n _ }
 
-pub narrow_constant : {E : Type 0} (shown : E → Interval) (r : Reach) (f : Fraction) (e : E) → Narrow shown (limits_of 8) r (constant f) e
+pub narrow_constant : {E : Type 0} (shown : E → Interval) (r : Reach) (f : Fraction) (e : E)
+    → Narrow shown (limits_of 8) r (constant f) e
 unfolding Keeps bound_of limits_of
 narrow_constant shown r f e = record { kept = constant_none r.width f _ }
 
-pub narrow_add : {E : Type 0} (shown : E → Interval) (r : Reach) (x y : Expression) (e : E) → Narrow shown (limits_of 8) r (add x y) e
+pub narrow_add : {E : Type 0} (shown : E → Interval) (r : Reach) (x y : Expression) (e : E)
+    → Narrow shown (limits_of 8) r (add x y) e
 unfolding Keeps bound_of limits_of
 narrow_add shown r x y e = record { kept = sum_none r.width _ _ _ }
 
-pub narrow_subtract : {E : Type 0} (shown : E → Interval) (r : Reach) (x y : Expression) (e : E) → Narrow shown (limits_of 8) r (subtract x y) e
+pub narrow_subtract : {E : Type 0} (shown : E → Interval) (r : Reach) (x y : Expression) (e : E)
+    → Narrow shown (limits_of 8) r (subtract x y) e
 unfolding Keeps bound_of limits_of
 narrow_subtract shown r x y e = record { kept = difference_none r.width _ _ _ }
 
-pub narrow_negate : {E : Type 0} (shown : E → Interval) (r : Reach) (x : Expression) (e : E) → Narrow shown (limits_of 8) r (negate x) e
+pub narrow_negate : {E : Type 0} (shown : E → Interval) (r : Reach) (x : Expression) (e : E)
+    → Narrow shown (limits_of 8) r (negate x) e
 unfolding Keeps bound_of limits_of
 narrow_negate shown r x e = record { kept = negated_none r.width _ _ }
 
-pub narrow_scale : {E : Type 0} (shown : E → Interval) (r : Reach) (f : Fraction) (x : Expression) (e : E) → Narrow shown (limits_of 8) r (scale f x) e
+pub narrow_scale : {E : Type 0} (shown : E → Interval) (r : Reach) (f : Fraction) (x : Expression) (e : E)
+    → Narrow shown (limits_of 8) r (scale f x) e
 unfolding Keeps bound_of limits_of
 narrow_scale shown r f x e = record { kept = scaled_none r.width f _ _ }
 
-pub narrow_widen : {E : Type 0} (shown : E → Interval) (r : Reach) (f : Fraction) (x : Expression) (e : E) → Narrow shown (limits_of 8) r (widen f x) e
+pub narrow_widen : {E : Type 0} (shown : E → Interval) (r : Reach) (f : Fraction) (x : Expression) (e : E)
+    → Narrow shown (limits_of 8) r (widen f x) e
 unfolding Keeps bound_of limits_of
 narrow_widen shown r f x e = record { kept = widen_none r.width f _ _ }
 
-pub narrow_multiply : {E : Type 0} (shown : E → Interval) (r : Reach) (x y : Expression) (e : E) → Narrow shown (limits_of 8) r (multiply x y) e
+pub narrow_multiply : {E : Type 0} (shown : E → Interval) (r : Reach) (x y : Expression) (e : E)
+    → Narrow shown (limits_of 8) r (multiply x y) e
 unfolding Keeps bound_of limits_of
 narrow_multiply shown r x y e = record { kept = product_none r.width _ _ _ }
 
-pub narrow_square : {E : Type 0} (shown : E → Interval) (r : Reach) (x : Expression) (e : E) → Narrow shown (limits_of 8) r (power x 2) e
+pub narrow_square : {E : Type 0} (shown : E → Interval) (r : Reach) (x : Expression) (e : E)
+    → Narrow shown (limits_of 8) r (power x 2) e
 unfolding Keeps bound_of limits_of power_bound
 narrow_square shown r x e = record { kept = square_none r.width (bound_of (limits_of 8) r.bounds x) (shown e) }
 
-pub narrow_divide : {E : Type 0} (shown : E → Interval) (r : Reach) (x y : Expression) (e : E) → Narrow shown (limits_of 8) r (divide x y) e
+pub narrow_divide : {E : Type 0} (shown : E → Interval) (r : Reach) (x y : Expression) (e : E)
+    → Narrow shown (limits_of 8) r (divide x y) e
 unfolding Keeps bound_of limits_of
 narrow_divide shown r x y e = record { kept = quotient_none r.width _ _ _ }
 
-pub narrow_root : {E : Type 0} (shown : E → Interval) (r : Reach) (x : Expression) (e : E) → Narrow shown (limits_of 8) r (root x) e
+pub narrow_root : {E : Type 0} (shown : E → Interval) (r : Reach) (x : Expression) (e : E)
+    → Narrow shown (limits_of 8) r (root x) e
 unfolding Keeps bound_of limits_of
 narrow_root shown r x e = record { kept = root_none r.width _ _ }
 

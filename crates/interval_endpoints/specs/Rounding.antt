@@ -1,5 +1,6 @@
 -- Endpoints that fit in 64 bits, and quotients of endpoints, over plain numbers.
-use Rattle.std.specs.Prelude.{◌≡◌, cond, int_le, ◌⊎◌, ℤ, pos, ◌+ℤ◌, ◌-ℤ◌, ◌*ℤ◌, ◌≤ℤ◌, ◌<ℤ◌, ◌+◌, unsigned_abs, FitsSigned}
+use Rattle.std.specs.Prelude.{◌≡◌, cond, int_le, ◌⊎◌, ℤ, pos, ◌+ℤ◌, ◌-ℤ◌, ◌*ℤ◌, ◌≤ℤ◌, ◌<ℤ◌, ◌+◌, unsigned_abs}
+use Rattle.std.specs.Prelude.{FitsSigned}
 use Rattle.book_model.specs.Fraction.{Fraction}
 use Rattle.interval_endpoints.specs.Scales.{Scale, coarse, at_scale, unit, word}
 use Rattle.book_model.specs.Interval.{Interval, everything, between}

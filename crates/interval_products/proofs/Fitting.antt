@@ -1,17 +1,20 @@
 -- Where 128 bits have no room, no bound is promised.
-use Rattle.std.proofs.Common.{◌≡◌, ℕ, zero, suc, ◌*◌, ◌^◌, ◌≤◌, ◌<◌, ◌-◌, arith, refl, sym, Bool, true, false, ◌&&◌, nat_lt, ℤ, pos, negsuc, ◌*ℤ◌, ◌-ℤ◌, ◌≤ℤ◌, ◌<ℤ◌, SFits, inl, inr}
+use Rattle.std.proofs.Common.{◌≡◌, ℕ, zero, suc, ◌*◌, ◌^◌, ◌≤◌, ◌<◌, ◌-◌, arith, refl, sym, Bool, true, false, ◌&&◌}
+use Rattle.std.proofs.Common.{nat_lt, ℤ, pos, negsuc, ◌*ℤ◌, ◌-ℤ◌, ◌≤ℤ◌, ◌<ℤ◌, SFits, inl, inr}
 use Rattle.std.specs.Int.{w128}
 use Rattle.std.proofs.Math.Nat.{mul-le-mul_right}
 use Rattle.std.proofs.lemmas.Int.{ints}
 use Rattle.std.proofs.lemmas.Bool.{ltb-true}
 use lib.Signed.{≤ℤ_refl}
 use Rattle.book_model.specs.Interval.{Interval, between}
-use Rattle.book_model.specs.numbers.Bounds.{Bound, unbounded, bounded, range_size, ceil_div, limited, product_bound, power_bound, root_bound, quotient_bound, IsNarrow}
+use Rattle.book_model.specs.numbers.Bounds.{Bound, unbounded, bounded, range_size, ceil_div, limited, product_bound}
+use Rattle.book_model.specs.numbers.Bounds.{power_bound, root_bound, quotient_bound, IsNarrow}
 use Rattle.interval_endpoints.specs.Rounding.{IsLeastBy, IsGreatestBy}
 use Rattle.interval_endpoints.specs.Scales.{Scale, coarse, fine, at_scale, limits_on, word}
 use Rattle.interval_endpoints.proofs.Keeping.{AreKept, kept_of, both}
 use Rattle.interval_endpoints.proofs.Products.{IsBounded, corner_sized, sized, ceil_above}
-use Rattle.interval_products.specs.Room.{HaveProducts, IsDividend, HasQuotient, HasFineQuotient, HaveQuotients, HaveFineQuotients, HaveOpposites, HaveQuotientsBy, HasRoot}
+use Rattle.interval_products.specs.Room.{HaveProducts, IsDividend, HasQuotient, HasFineQuotient, HaveQuotients}
+use Rattle.interval_products.specs.Room.{HaveFineQuotients, HaveOpposites, HaveQuotientsBy, HasRoot}
 
 -- an endpoint may be divided, and so may its opposite
 pub end_divides : (scale : Scale) (n a : ℤ) → SFits (word scale) n → a ≡ n → IsDividend scale a
@@ -22,32 +25,39 @@ pub opposite_divides : (scale : Scale) (n a : ℤ) → SFits (word scale) n → 
 opposite_divides coarse n a f e = record { above = omega (arith, ints, f, e); below = omega (arith, ints, f, e) }
 opposite_divides fine n a f e = record { above = omega (arith, ints, f, e); below = omega (arith, ints, f, e) }
 
-roomy : (A B Z : ℕ) (p : ℤ) → IsBounded p ((pos (2 ^ 24) *ℤ pos A) *ℤ (pos (2 ^ 24) *ℤ pos B)) → A * B ≤ Z * 2 ^ 32 → Z < 2 ^ 46 → SFits w128 p
+roomy : (A B Z : ℕ) (p : ℤ) → IsBounded p ((pos (2 ^ 24) *ℤ pos A) *ℤ (pos (2 ^ 24) *ℤ pos B)) → A * B ≤ Z * 2 ^ 32
+    → Z < 2 ^ 46 → SFits w128 p
 roomy A B Z p h k l = omega (arith, ints, h.above, h.below, k, l)
 
 -- endpoints that keep a bound
-kept : (a b : ℤ) (s k w : ℕ) (x y : ℤ) → IsNarrow w (bounded a b s k) (between (at_scale fine x) (at_scale fine y)) → AreKept fine a b s k w x y
+kept : (a b : ℤ) (s k w : ℕ) (x y : ℤ) → IsNarrow w (bounded a b s k) (between (at_scale fine x) (at_scale fine y))
+    → AreKept fine a b s k w x y
 unfolding IsNarrow
 kept a b s k w x y h = kept_of fine a b s k w x y h
 
 pub product_overflow : (scale : Scale) (w : ℕ) (p q : Bound) (x y c d : ℤ) (i : Interval) → x ≤ℤ y → c ≤ℤ d
-    → IsNarrow w p (between (at_scale scale x) (at_scale scale y)) → IsNarrow w q (between (at_scale scale c) (at_scale scale d))
+    → IsNarrow w p (between (at_scale scale x) (at_scale scale y))
+    → IsNarrow w q (between (at_scale scale c) (at_scale scale d))
     → (HaveProducts scale x y c d → ⊥)
     → IsNarrow w (product_bound (limits_on scale) p q) i
 unfolding product_bound IsNarrow
-product_overflow coarse w p q x y c d i o r h k n = absurd (n (record { first = tt; second = tt; third = tt; fourth = tt }))
+product_overflow coarse w p q x y c d i o r h k n =
+    absurd (n (record { first = tt; second = tt; third = tt; fourth = tt }))
 product_overflow fine w unbounded q x y c d i o r h k n = tt
 product_overflow fine w (bounded a b s t) unbounded x y c d i o r h k n = tt
 product_overflow fine w (bounded a b s t) (bounded a' b' s' t') x y c d i o r h k n = by_test _ _ _ refl
   where
-    by_test : (t r : Bool) (p : Bound) → t ≡ (r && nat_lt (ceil_div (range_size a b * range_size a' b') (2 ^ 32 - 1)) (2 ^ 46)) → IsNarrow w (limited t p) i
+    by_test : (t r : Bool) (p : Bound)
+        → t ≡ (r && nat_lt (ceil_div (range_size a b * range_size a' b') (2 ^ 32 - 1)) (2 ^ 46))
+        → IsNarrow w (limited t p) i
     by_test false r p e = tt
     by_test true r1 p e =
         let z = sized fine a b s t w x y (kept a b s t w x y h) in
         let z' = sized fine a' b' s' t' w c d (kept a' b' s' t' w c d k) in
         let l = ltb-true _ _ (both _ _ (sym e)).1 in
         let at_corner = λ (p1 l1 : ℤ) (xp : x ≤ℤ p1) (py : p1 ≤ℤ y) (cl : c ≤ℤ l1) (ld : l1 ≤ℤ d).
-        roomy (range_size a b) (range_size a' b') _ (p1 *ℤ l1) (corner_sized fine (range_size a b) (range_size a' b') x y c d p1 l1 o r z z' xp py cl ld)
+        roomy (range_size a b) (range_size a' b') _ (p1 *ℤ l1) (corner_sized fine (range_size a b) (range_size a' b') x
+        y c d p1 l1 o r z z' xp py cl ld)
         (ceil_above (range_size a b * range_size a' b') (2 ^ 32 - 1)) l in
         absurd (n (record {
           first = at_corner x c (≤ℤ_refl x) o (≤ℤ_refl c) r;
@@ -56,20 +66,24 @@ product_overflow fine w (bounded a b s t) (bounded a' b' s' t') x y c d i o r h 
           fourth = at_corner y d o (≤ℤ_refl y) r (≤ℤ_refl d);
         }))
 
-pub square_overflow : (scale : Scale) (w : ℕ) (p : Bound) (x y : ℤ) (i : Interval) → x ≤ℤ y → IsNarrow w p (between (at_scale scale x) (at_scale scale y))
+pub square_overflow : (scale : Scale) (w : ℕ) (p : Bound) (x y : ℤ) (i : Interval) → x ≤ℤ y
+    → IsNarrow w p (between (at_scale scale x) (at_scale scale y))
     → (HaveProducts scale x y x y → ⊥) → IsNarrow w (power_bound (limits_on scale) p 2) i
 unfolding power_bound IsNarrow
 square_overflow coarse w p x y i o h n = absurd (n (record { first = tt; second = tt; third = tt; fourth = tt }))
 square_overflow fine w unbounded x y i o h n = tt
 square_overflow fine w (bounded a b s t) x y i o h n = by_test _ _ _ refl
   where
-    by_test : (t r : Bool) (p : Bound) → t ≡ (r && nat_lt (ceil_div (range_size a b * range_size a b) (2 ^ 32 - 1)) (2 ^ 46)) → IsNarrow w (limited t p) i
+    by_test : (t r : Bool) (p : Bound)
+        → t ≡ (r && nat_lt (ceil_div (range_size a b * range_size a b) (2 ^ 32 - 1)) (2 ^ 46))
+        → IsNarrow w (limited t p) i
     by_test false r p e = tt
     by_test true r1 p e =
         let z = sized fine a b s t w x y (kept a b s t w x y h) in
         let l = ltb-true _ _ (both _ _ (sym e)).1 in
         let at_corner = λ (p1 l1 : ℤ) (xp : x ≤ℤ p1) (py : p1 ≤ℤ y) (cl : x ≤ℤ l1) (ld : l1 ≤ℤ y).
-        roomy (range_size a b) (range_size a b) _ (p1 *ℤ l1) (corner_sized fine (range_size a b) (range_size a b) x y x y p1 l1 o o z z xp py cl ld)
+        roomy (range_size a b) (range_size a b) _ (p1 *ℤ l1) (corner_sized fine (range_size a b) (range_size a b) x y x
+        y p1 l1 o o z z xp py cl ld)
         (ceil_above _ (2 ^ 32 - 1)) l in
         absurd (n (record {
           first = at_corner x x (≤ℤ_refl x) o (≤ℤ_refl x) o;
@@ -78,14 +92,16 @@ square_overflow fine w (bounded a b s t) x y i o h n = by_test _ _ _ refl
           fourth = at_corner y y o (≤ℤ_refl y) o (≤ℤ_refl y);
         }))
 
-pub root_overflow : (scale : Scale) (w : ℕ) (p : Bound) (x y : ℤ) (i : Interval) → IsNarrow w p (between (at_scale scale x) (at_scale scale y))
+pub root_overflow : (scale : Scale) (w : ℕ) (p : Bound) (x y : ℤ) (i : Interval)
+    → IsNarrow w p (between (at_scale scale x) (at_scale scale y))
     → (HasRoot scale y → ⊥) → IsNarrow w (root_bound (limits_on scale) p) i
 unfolding root_bound IsNarrow
 root_overflow coarse w p x y i h n = absurd (n tt)
 root_overflow fine w unbounded x y i h n = tt
 root_overflow fine w (bounded (negsuc a) b s k) x y i h n = tt
 root_overflow fine w (bounded (pos a) (negsuc b) s k) x y i h n = tt
-root_overflow fine w (bounded (pos a) (pos zero) s k) x y i h n = let m = kept (pos a) (pos zero) s k w x y h in absurd (n (omega (arith, ints, m.below)))
+root_overflow fine w (bounded (pos a) (pos zero) s k) x y i h n = let m = kept (pos a) (pos zero) s k w x y h in
+    absurd (n (omega (arith, ints, m.below)))
 root_overflow fine w (bounded (pos a) (pos (suc b)) s k) x y i h n = by_test _ _ _ refl
   where
     by_test : (t r : Bool) (p : Bound) → t ≡ (r && nat_lt (suc b) (2 ^ 46)) → IsNarrow w (limited t p) i
@@ -120,20 +136,24 @@ last_fine a b c d p o k (inr l) r = record {
   below = omega (arith, ints, k, l.1, r.below);
 }
 
-pub first_has : (scale : Scale) (a b c d p : ℤ) → a ≤ℤ b → c ≤ℤ d → IsLeastBy a c d p → HaveQuotients scale a b c d → HasQuotient scale a p
+pub first_has : (scale : Scale) (a b c d p : ℤ) → a ≤ℤ b → c ≤ℤ d → IsLeastBy a c d p → HaveQuotients scale a b c d
+    → HasQuotient scale a p
 first_has coarse a b c d p o k l r = tt
 first_has fine a b c d p o k l r = first_fine a b c d p o k l r
 
-pub last_has : (scale : Scale) (a b c d p : ℤ) → a ≤ℤ b → c ≤ℤ d → IsGreatestBy b c d p → HaveQuotients scale a b c d → HasQuotient scale b p
+pub last_has : (scale : Scale) (a b c d p : ℤ) → a ≤ℤ b → c ≤ℤ d → IsGreatestBy b c d p → HaveQuotients scale a b c d
+    → HasQuotient scale b p
 last_has coarse a b c d p o k l r = tt
 last_has fine a b c d p o k l r = last_fine a b c d p o k l r
 
 -- by a divisor above 0, and by one below 0
-pub by_positive : (scale : Scale) (x y c d : ℤ) → c ≤ℤ d → pos 0 <ℤ c → HaveQuotientsBy scale x y c d → HaveQuotients scale x y c d
+pub by_positive : (scale : Scale) (x y c d : ℤ) → c ≤ℤ d → pos 0 <ℤ c → HaveQuotientsBy scale x y c d
+    → HaveQuotients scale x y c d
 by_positive scale x y c d o h (inl t) = t.1
 by_positive scale x y c d o h (inr t) = absurd (let l = t.0 in omega (arith, ints, o, h, l))
 
-pub by_negative : (scale : Scale) (x y c d : ℤ) → c ≤ℤ d → d <ℤ pos 0 → HaveQuotientsBy scale x y c d → HaveOpposites x y c d
+pub by_negative : (scale : Scale) (x y c d : ℤ) → c ≤ℤ d → d <ℤ pos 0 → HaveQuotientsBy scale x y c d
+    → HaveOpposites x y c d
     × HaveQuotients scale (pos 0 -ℤ y) (pos 0 -ℤ x) (pos 0 -ℤ d) (pos 0 -ℤ c)
 by_negative scale x y c d o h (inl t) = absurd (let l = t.0 in omega (arith, ints, o, h, l))
 by_negative scale x y c d o h (inr t) = t.1
@@ -144,13 +164,16 @@ lesser_root coarse x y o h = tt
 lesser_root fine x y o h = omega (arith, ints, o, h)
 
 -- a quotient of sizes that the scale bears has room
-by_ratio : (A Z g : ℕ) (c : ℤ) → A * 2 ^ 32 ≤ Z * suc g → Z < 2 ^ 100 → (pos (2 ^ 24) *ℤ pos (suc g)) ≤ℤ c → (pos (2 ^ 24) *ℤ pos A) ≤ℤ (pos (2 ^ 69) *ℤ c)
+by_ratio : (A Z g : ℕ) (c : ℤ) → A * 2 ^ 32 ≤ Z * suc g → Z < 2 ^ 100 → (pos (2 ^ 24) *ℤ pos (suc g)) ≤ℤ c
+    → (pos (2 ^ 24) *ℤ pos A) ≤ℤ (pos (2 ^ 69) *ℤ c)
 by_ratio A Z g c h k l =
     let m : Z * suc g ≤ 2 ^ 100 * suc g = mul-le-mul_right (suc g) (omega (arith, k)) in
     omega (arith, ints, h, m, l)
 
-pub quotient_overflow : (scale : Scale) (w : ℕ) (p q : Bound) (x y c d : ℤ) (i : Interval) → IsNarrow w p (between (at_scale scale x) (at_scale scale y))
-    → IsNarrow w q (between (at_scale scale c) (at_scale scale d)) → (HaveQuotients scale x y c d → ⊥) → IsNarrow w (quotient_bound (limits_on scale) p q) i
+pub quotient_overflow : (scale : Scale) (w : ℕ) (p q : Bound) (x y c d : ℤ) (i : Interval)
+    → IsNarrow w p (between (at_scale scale x) (at_scale scale y))
+    → IsNarrow w q (between (at_scale scale c) (at_scale scale d)) → (HaveQuotients scale x y c d → ⊥)
+    → IsNarrow w (quotient_bound (limits_on scale) p q) i
 unfolding quotient_bound IsNarrow
 quotient_overflow coarse w p q x y c d i h o n = absurd (n tt)
 quotient_overflow fine w unbounded q x y c d i h o n = tt
@@ -159,7 +182,8 @@ quotient_overflow fine w (bounded a b s t) (bounded (pos zero) b' s' t') x y c d
 quotient_overflow fine w (bounded a b s t) (bounded (negsuc a') b' s' t') x y c d i h o n = tt
 quotient_overflow fine w (bounded a b s t) (bounded (pos (suc g)) b' s' t') x y c d i h o n = by_test _ _ refl
   where
-    by_test : (t : Bool) (p : Bound) → t ≡ (nat_lt (ceil_div (range_size a b * 2 ^ 32) g) (2 ^ 100) && nat_lt (range_size (pos (suc g)) b') (2 ^ 46))
+    by_test : (t : Bool) (p : Bound)
+        → t ≡ (nat_lt (ceil_div (range_size a b * 2 ^ 32) g) (2 ^ 100) && nat_lt (range_size (pos (suc g)) b') (2 ^ 46))
         → IsNarrow w (limited t p) i
     by_test false p e = tt
     by_test true p e =
@@ -169,5 +193,10 @@ quotient_overflow fine w (bounded a b s t) (bounded (pos (suc g)) b' s' t') x y 
         let u = kept (pos (suc g)) b' s' t' w c d o in
         let z = sized fine a b s t w x y (kept a b s t w x y h) in
         let v = sized fine (pos (suc g)) b' s' t' w c d u in
-        let r = by_ratio (range_size a b) _ g c (ceil_above (range_size a b * 2 ^ 32) g) l (omega (arith, ints, u.above)) in
-        absurd (n (record { divisor = omega (arith, ints, m, v.below); above = omega (arith, ints, r, z.above); below = omega (arith, ints, r, z.below) }))
+        let r = by_ratio (range_size a b) _ g c (ceil_above (range_size a b * 2 ^ 32) g) l
+        (omega (arith, ints, u.above)) in
+        absurd (n (record {
+          divisor = omega (arith, ints, m, v.below);
+          above = omega (arith, ints, r, z.above);
+          below = omega (arith, ints, r, z.below);
+        }))

@@ -1,5 +1,5 @@
--- Where 128 bits have room for products, quotients and roots of endpoints: always for those of endpoints of 64 bits, and
--- for those of endpoints of 128 bits up to a size.
+-- Where 128 bits have room for products, quotients and roots of endpoints: always for those of endpoints of 64 bits,
+-- and for those of endpoints of 128 bits up to a size.
 use Rattle.std.specs.Prelude.{ℤ, pos, neg_ℤ, ◌^◌, ◌+ℤ◌, ◌-ℤ◌, ◌*ℤ◌, ◌≤ℤ◌, ◌<ℤ◌, ◌⊎◌, FitsSigned}
 use Rattle.std.specs.Int.{w128}
 use Rattle.interval_endpoints.specs.Scales.{Scale, coarse, fine}

@@ -12,7 +12,8 @@ use Rattle.book_model.specs.calendars.Spans.{days_of, nearest, months_of_days, r
 use Rattle.calendar_math.proofs.SpanLemmas.{LiesWithin}
 
 -- the days of a count of half months as a quotient of whole numbers
-days_are : (halves : ℤ) → days_of (fraction_of SYNODIC_MONTH) (ratio halves 2) ≡ floor_quotient (pos 29530588861 *ℤ halves) 1999999999
+days_are : (halves : ℤ) → days_of (fraction_of SYNODIC_MONTH) (ratio halves 2) ≡ floor_quotient
+    (pos 29530588861 *ℤ halves) 1999999999
 unfolding days_of times
 days_are halves = refl
 
@@ -21,10 +22,14 @@ pub days_near : (halves : ℤ) → negsuc 239999 ≤ℤ halves → halves ≤ℤ
 days_near halves h k =
     let f = floor_quotient_is (pos 29530588861 *ℤ halves) 1999999999 in
     let e = days_are halves in
-    record { from = omega (arith, ints, h, k, e, f.not_above, f.close); to = omega (arith, ints, h, k, e, f.not_above, f.close) }
+    record {
+      from = omega (arith, ints, h, k, e, f.not_above, f.close);
+      to = omega (arith, ints, h, k, e, f.not_above, f.close);
+    }
 
 -- the months before one as a quotient of whole numbers
-months_are : (first : ℤ) → months_before first ≡ floor_quotient ((first -ℤ pos 227015) *ℤ pos 1000000000 *ℤ pos 2 +ℤ pos 29530588861) 59061177721
+months_are : (first : ℤ) → months_before first ≡ floor_quotient ((first -ℤ pos 227015) *ℤ pos 1000000000 *ℤ pos 2 +ℤ pos
+    29530588861) 59061177721
 unfolding months_before months_of_days nearest times plus reciprocal
 months_are first = refl
 
@@ -32,4 +37,7 @@ pub months_near : (first : ℤ) → IsFactValue first → LiesWithin (negsuc 399
 months_near first h =
     let f = floor_quotient_is ((first -ℤ pos 227015) *ℤ pos 1000000000 *ℤ pos 2 +ℤ pos 29530588861) 59061177721 in
     let e = months_are first in
-    record { from = omega (arith, ints, h.0, h.1, e, f.not_above, f.close); to = omega (arith, ints, h.0, h.1, e, f.not_above, f.close) }
+    record {
+      from = omega (arith, ints, h.0, h.1, e, f.not_above, f.close);
+      to = omega (arith, ints, h.0, h.1, e, f.not_above, f.close);
+    }

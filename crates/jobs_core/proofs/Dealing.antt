@@ -1,10 +1,13 @@
--- Places that are dealt to chunks in turn: of those before a place so many went to each chunk, and the next one goes on from there.
-use Rattle.std.proofs.Common.{◌≡◌, ◌∙◌, ℕ, ◌+◌, ◌-◌, ◌*◌, ◌/◌, ◌%◌, ◌<◌, ◌≤◌, ◌⊎◌, inl, inr, nat_lt, if◌then◌else◌, refl, ap, ap₂, sym, arith}
+-- Places that are dealt to chunks in turn: of those before a place so many went to each chunk, and the next one goes on
+-- from there.
+use Rattle.std.proofs.Common.{◌≡◌, ◌∙◌, ℕ, ◌+◌, ◌-◌, ◌*◌, ◌/◌, ◌%◌, ◌<◌, ◌≤◌, ◌⊎◌, inl, inr, nat_lt, if◌then◌else◌}
+use Rattle.std.proofs.Common.{refl, ap, ap₂, sym, arith}
 use Rattle.std.specs.Prelude.{min, ◌≢◌}
 use Rattle.std.proofs.lemmas.Bool.{cases_lt, lt-ltb}
 use Rattle.std.proofs.lemmas.Bool.Decides.{nat_tests}
 use Rattle.std.proofs.lemmas.Nat.{div-add-mod', div-mul-add, le-div}
-use Rattle.std.proofs.Math.Nat.{add-mul, mod-lt, mul_comm, mul_assoc, mul-div_left, mul-mod_left, mul-le-mul_right, div-eq_of_lt, mod-eq_of_lt, lt_of_mul-lt-mul_right, div-mul-le_self}
+use Rattle.std.proofs.Math.Nat.{add-mul, mod-lt, mul_comm, mul_assoc, mul-div_left, mul-mod_left, mul-le-mul_right}
+use Rattle.std.proofs.Math.Nat.{div-eq_of_lt, mod-eq_of_lt, lt_of_mul-lt-mul_right, div-mul-le_self}
 use Rattle.jobs_core.specs.Pieces.{in_rounds, piece_of, number_of, place_at, piece_size, AreFair}
 
 -- ---- quotient and remainder of the next number
@@ -50,12 +53,14 @@ single_other i k q some within other = by (cases_lt (i % k + 1) k)
   where
     by : (i % k + 1 < k) ⊎ (k ≤ i % k + 1) → piece_size (i + 1) k q ≡ piece_size i k q
     by (inl more) = let next = next_within i k more in omega (arith, next.quotient, next.remainder)
-    by (inr last) = let next = next_wraps i k some last in let below : i % k < k = mod-lt i some in omega (arith, next.quotient, next.remainder)
+    by (inr last) = let next = next_wraps i k some last in let below : i % k < k = mod-lt i some in
+        omega (arith, next.quotient, next.remainder)
 
 block_own : (i k : ℕ) → 0 < k → by_blocks k (i + 1) (i % (k * 16) / 16) ≡ i / (k * 16) * 16 + i % (k * 16) % 16 + 1
 block_own i k some = by (cases_lt (i % (k * 16) + 1) (k * 16))
   where
-    by : (i % (k * 16) + 1 < k * 16) ⊎ (k * 16 ≤ i % (k * 16) + 1) → by_blocks k (i + 1) (i % (k * 16) / 16) ≡ i / (k * 16) * 16 + i % (k * 16) % 16 + 1
+    by : (i % (k * 16) + 1 < k * 16) ⊎ (k * 16 ≤ i % (k * 16) + 1)
+        → by_blocks k (i + 1) (i % (k * 16) / 16) ≡ i / (k * 16) * 16 + i % (k * 16) % 16 + 1
     by (inl more) = let next = next_within i (k * 16) more in omega (arith, next.quotient, next.remainder)
     by (inr last) =
         let round : 0 < k * 16 = omega arith in
@@ -147,8 +152,10 @@ dealt_here n k i = by (cases_lt i (in_rounds n k))
     single = omega arith
 
     by : (i < in_rounds n k) ⊎ (in_rounds n k ≤ i) → dealt n k i (piece_of n k i) ≡ number_of n k i
-    by (inl lt) = dealt_in n k i lt (piece_of n k i) ∙ ap (λ p. by_blocks k i p) (piece_in n k i lt) ∙ block ∙ sym (number_in n k i lt)
-    by (inr ge) = dealt_past n k i ge (piece_of n k i) ∙ ap (λ p. piece_size i k p) (piece_past n k i ge) ∙ single ∙ sym (number_past n k i ge)
+    by (inl lt) = dealt_in n k i lt (piece_of n k i) ∙ ap (λ p. by_blocks k i p) (piece_in n k i lt) ∙ block
+        ∙ sym (number_in n k i lt)
+    by (inr ge) = dealt_past n k i ge (piece_of n k i) ∙ ap (λ p. piece_size i k p) (piece_past n k i ge) ∙ single
+        ∙ sym (number_past n k i ge)
 
 -- then its chunk has one more
 pub dealt_own : (n k i : ℕ) → 0 < k → dealt n k (i + 1) (piece_of n k i) ≡ number_of n k i + 1
@@ -156,11 +163,13 @@ dealt_own n k i some = by (cases_lt i (in_rounds n k))
   where
     by : (i < in_rounds n k) ⊎ (in_rounds n k ≤ i) → dealt n k (i + 1) (piece_of n k i) ≡ number_of n k i + 1
     by (inl lt) =
-        up_to n k i (piece_of n k i) some lt ∙ ap (λ p. by_blocks k (i + 1) p) (piece_in n k i lt) ∙ block_own i k some ∙ ap (λ x. x + 1)
+        up_to n k i (piece_of n k i) some lt ∙ ap (λ p. by_blocks k (i + 1) p) (piece_in n k i lt) ∙ block_own i k some
+        ∙ ap (λ x. x + 1)
         (sym (number_in n k i lt))
     by (inr ge) =
         let more : in_rounds n k ≤ i + 1 = omega arith in
-        dealt_past n k (i + 1) more (piece_of n k i) ∙ ap (λ p. piece_size (i + 1) k p) (piece_past n k i ge) ∙ single_own i k some ∙ ap (λ x. x + 1)
+        dealt_past n k (i + 1) more (piece_of n k i) ∙ ap (λ p. piece_size (i + 1) k p) (piece_past n k i ge)
+        ∙ single_own i k some ∙ ap (λ x. x + 1)
         (sym (number_past n k i ge))
 
 -- and each other as many as before
@@ -168,10 +177,12 @@ pub dealt_other : (n k i q : ℕ) → 0 < k → q < k → q ≢ piece_of n k i �
 dealt_other n k i q some within other = by (cases_lt i (in_rounds n k))
   where
     by : (i < in_rounds n k) ⊎ (in_rounds n k ≤ i) → dealt n k (i + 1) q ≡ dealt n k i q
-    by (inl lt) = up_to n k i q some lt ∙ block_other i k q some within (λ e. other (e ∙ sym (piece_in n k i lt))) ∙ sym (dealt_in n k i lt q)
+    by (inl lt) = up_to n k i q some lt ∙ block_other i k q some within (λ e. other (e ∙ sym (piece_in n k i lt)))
+        ∙ sym (dealt_in n k i lt q)
     by (inr ge) =
         let more : in_rounds n k ≤ i + 1 = omega arith in
-        dealt_past n k (i + 1) more q ∙ single_other i k q some within (λ e. other (e ∙ sym (piece_past n k i ge))) ∙ sym (dealt_past n k i ge q)
+        dealt_past n k (i + 1) more q ∙ single_other i k q some within (λ e. other (e ∙ sym (piece_past n k i ge)))
+        ∙ sym (dealt_past n k i ge q)
 
 -- before the first place there are none
 pub dealt_none : (n k p : ℕ) → 0 < k → dealt n k 0 p ≡ 0
@@ -196,15 +207,19 @@ place_back n k i some = by (cases_lt i (in_rounds n k))
   where
     by : (i < in_rounds n k) ⊎ (in_rounds n k ≤ i) → place_at n k (piece_of n k i) (number_of n k i) ≡ i
     by (inl lt) =
-        let in_round : i / (k * 16) < n / (k * 16) = lt_of_mul-lt-mul_right (k * 16) (omega (arith, div-mul-le_self i (k * 16))) in
+        let in_round : i / (k * 16) < n / (k * 16) = lt_of_mul-lt-mul_right (k * 16)
+        (omega (arith, div-mul-le_self i (k * 16))) in
         let number : i / (k * 16) * 16 + i % (k * 16) % 16 < n / (k * 16) * 16 = omega arith in
         let round : (i / (k * 16) * 16 + i % (k * 16) % 16) / 16 ≡ i / (k * 16) = omega arith in
         let rest : (i / (k * 16) * 16 + i % (k * 16) % 16) % 16 ≡ i % (k * 16) % 16 = omega arith in
-        ap₂ (λ p j. place_at n k p j) (piece_in n k i lt) (number_in n k i lt) ∙ place_in n k _ _ number ∙ rw (round, rest)
+        ap₂ (λ p j. place_at n k p j) (piece_in n k i lt) (number_in n k i lt) ∙ place_in n k _ _ number
+        ∙ rw (round, rest)
         (omega (arith, div-add-mod' i (k * 16)))
     by (inr ge) =
-        let past : n / (k * 16) * 16 ≤ i / k = le-div (n / (k * 16) * 16) i k some (omega (arith, round_places (n / (k * 16)) k)) in
-        ap₂ (λ p j. place_at n k p j) (piece_past n k i ge) (number_past n k i ge) ∙ place_past n k _ _ past ∙ div-add-mod' i k
+        let past : n / (k * 16) * 16 ≤ i / k = le-div (n / (k * 16) * 16) i k some
+        (omega (arith, round_places (n / (k * 16)) k)) in
+        ap₂ (λ p j. place_at n k p j) (piece_past n k i ge) (number_past n k i ge) ∙ place_past n k _ _ past
+        ∙ div-add-mod' i k
 
 -- its chunk has so many
 pub number_within : (n k i : ℕ) → 0 < k → i < n → number_of n k i < piece_size n k (piece_of n k i)
@@ -220,8 +235,10 @@ number_within n k i some within = by (cases_lt i (in_rounds n k))
 
     by : (i < in_rounds n k) ⊎ (in_rounds n k ≤ i) → number_of n k i < piece_size n k (piece_of n k i)
     by (inl lt) =
-        let in_round : i / (k * 16) < n / (k * 16) = lt_of_mul-lt-mul_right (k * 16) (omega (arith, div-mul-le_self i (k * 16))) in
-        let few : n / (k * 16) * 16 ≤ n / k = le-div (n / (k * 16) * 16) n k some (omega (arith, round_places (n / (k * 16)) k, div-mul-le_self n (k * 16))) in
+        let in_round : i / (k * 16) < n / (k * 16) = lt_of_mul-lt-mul_right (k * 16)
+        (omega (arith, div-mul-le_self i (k * 16))) in
+        let few : n / (k * 16) * 16 ≤ n / k = le-div (n / (k * 16) * 16) n k some
+        (omega (arith, round_places (n / (k * 16)) k, div-mul-le_self n (k * 16))) in
         omega (arith, number_in n k i lt)
     by (inr ge) =
         let there : i / k < piece_size n k (i % k) = single (cases_lt (i / k) (n / k)) in
@@ -246,7 +263,8 @@ place_below n k p j some within few = by (cases_lt j (n / (k * 16) * 16))
         let more : (j / 16 + 1) * (k * 16) ≡ j / 16 * (k * 16) + 1 * (k * 16) = add-mul (j / 16) 1 (k * 16) in
         let most : (j / 16 + 1) * (k * 16) ≤ n / (k * 16) * (k * 16) = mul-le-mul_right (k * 16) (omega arith) in
         rw (lt-ltb j (n / (k * 16) * 16) lt) (omega (arith, more, most, div-mul-le_self n (k * 16)))
-    by (inr ge) = rw (if_above j (n / (k * 16) * 16) (j / 16 * (k * 16) + (p * 16 + j % 16)) (j * k + p) ge) (single (cases_lt j (n / k)))
+    by (inr ge) = rw (if_above j (n / (k * 16) * 16) (j / 16 * (k * 16) + (p * 16 + j % 16)) (j * k + p) ge)
+        (single (cases_lt j (n / k)))
 
 -- so is its place in whole rounds, and past them
 pub block_below : (n k p j : ℕ) → 0 < k → p < k → j < piece_size n k p → j < n / (k * 16) * 16

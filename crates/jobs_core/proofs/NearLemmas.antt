@@ -10,5 +10,6 @@ pub same_pair : (a b : Fact × ℤ) → a.0.kind ≡ b.0.kind → a.0.place ≡ 
 same_pair a b k p d v = λ j. (record { kind = k j; place = p j; day = d j }, v j)
 
 -- parts that are those of a fact make one
-pub same_fact : (kind k : Kind) (place p : Place) (day d : ℤ) → k ≡ kind → p ≡ place → d ≡ day → IsFact kind place day → IsFact k p d
+pub same_fact : (kind k : Kind) (place p : Place) (day d : ℤ) → k ≡ kind → p ≡ place → d ≡ day → IsFact kind place day
+    → IsFact k p d
 same_fact kind k place p day d ek ep ed h = rw (ek, ep, ed) h

@@ -9,7 +9,8 @@ use Rattle.book_model.specs.lines.Requests.{request_of}
 use Rattle.jobs_core.specs.Outcomes.{IsRowOf, CanResolve}
 
 -- they are what the lines ask, in order
-pub rows_mapped : {X : Type 0} (f : X → List ℕ) (xs : List X) (rows : List (Result Request Rule)) → AllZip (λ x row. IsRowOf (f x) row) xs rows
+pub rows_mapped : {X : Type 0} (f : X → List ℕ) (xs : List X) (rows : List (Result Request Rule))
+    → AllZip (λ x row. IsRowOf (f x) row) xs rows
     → rows ≡ map (λ x. request_of WRITTEN (f x)) xs
 rows_mapped f [] [] h = refl
 rows_mapped f [] (r ∷ rs) h = absurd h
@@ -17,7 +18,8 @@ rows_mapped f (x ∷ xs) [] h = absurd h
 rows_mapped f (x ∷ xs) (r ∷ rs) h = rw (h.0.0, rows_mapped f xs rs h.1) refl
 
 -- and each may be resolved
-pub rows_resolvable : {X : Type 0} (f : X → List ℕ) (xs : List X) (rows : List (Result Request Rule)) → AllZip (λ x row. IsRowOf (f x) row) xs rows
+pub rows_resolvable : {X : Type 0} (f : X → List ℕ) (xs : List X) (rows : List (Result Request Rule))
+    → AllZip (λ x row. IsRowOf (f x) row) xs rows
     → All CanResolve rows
 rows_resolvable f [] [] h k d lt = absurd (omega (arith, lt))
 rows_resolvable f [] (r ∷ rs) h k d lt = absurd h

@@ -7,7 +7,8 @@ use Rattle.book_model.specs.declared.version.TheConstants.{WRITTEN}
 use Rattle.book_model.specs.lines.Requests.{is_possible, is_in_reach, request_of}
 use Rattle.book_model.specs.lines.Outcomes.{LineOutcome, refused, resolved, undecided, void, IsRightForRow}
 use Rattle.oracle_core.specs.declared.oracle.Stop.{Stop}
-use Rattle.oracle_core.specs.declared.oracle.Stop.TheVariants.{Undecided as undecided_stop, Void as void_stop, Missing as missing_stop, Memory as memory_stop}
+use Rattle.oracle_core.specs.declared.oracle.Stop.TheVariants.{Undecided as undecided_stop, Void as void_stop}
+use Rattle.oracle_core.specs.declared.oracle.Stop.TheVariants.{Missing as missing_stop, Memory as memory_stop}
 use Rattle.jobs_core.specs.declared.outcome.Outcome.{Outcome}
 use Rattle.jobs_core.specs.declared.outcome.Outcome.TheVariants.{Refused, Shown, Found, Halted}
 use Rattle.jobs_core.specs.declared.outcome.Halt.{Halt}

@@ -9,5 +9,7 @@ use Rattle.line_core.proofs.Requests.{asked_readable}
 use Rattle.line_core.proofs.SpacedWords.{both, plain_words}
 
 -- each is one byte or more from 0x21 to 0x7E
-pub asked_are_words : (version : Version) (line : List ℕ) (r : Request) → request_of version line ≡ Ok r → AreWords (words_of line)
-asked_are_words version line r h = plain_words line (both (nat_le (length line) 200) (list_all is_plain line) (asked_readable version line r h)).1
+pub asked_are_words : (version : Version) (line : List ℕ) (r : Request) → request_of version line ≡ Ok r
+    → AreWords (words_of line)
+asked_are_words version line r h = plain_words line (both (nat_le (length line) 200) (list_all is_plain line)
+    (asked_readable version line r h)).1

@@ -1,5 +1,6 @@
 -- The text of a date is read as its numbers.
-use Rattle.std.proofs.Common.{◌≡◌, ◌∙◌, ℕ, zero, suc, ◌+◌, ◌-◌, ◌*◌, ◌<◌, ◌≤◌, Bool, true, false, List, [], ◌∷◌, ◌++◌, length, length-append, map, take, replicate, ap, refl, arith, nat_lt, decimal, pos}
+use Rattle.std.proofs.Common.{◌≡◌, ◌∙◌, ℕ, zero, suc, ◌+◌, ◌-◌, ◌*◌, ◌<◌, ◌≤◌, Bool, true, false, List, [], ◌∷◌, ◌++◌}
+use Rattle.std.proofs.Common.{length, length-append, map, take, replicate, ap, refl, arith, nat_lt, decimal, pos}
 use Rattle.std.proofs.lemmas.Bool.Decides.{nat_tests}
 use Rattle.std.proofs.lemmas.Fmt.{length-decimal-le}
 use Rattle.std.proofs.lemmas.List.{length-replicate}
@@ -29,7 +30,8 @@ all_digits k n [] h = refl
 all_digits k n (b ∷ bs) h = step (is_digit b) refl h (λ e. all_digits (10 * k + (b - 48)) n bs e)
   where
     step : (t : Bool) → is_digit b ≡ t → (if t then value_from (10 * k + (b - 48)) bs else None) ≡ Some n
-        → (value_from (10 * k + (b - 48)) bs ≡ Some n → list_all is_digit bs ≡ true) → (is_digit b && list_all is_digit bs) ≡ true
+        → (value_from (10 * k + (b - 48)) bs ≡ Some n → list_all is_digit bs ≡ true)
+        → (is_digit b && list_all is_digit bs) ≡ true
     step true e h rest = rw (e, rest h) refl
     step false e h rest = absurd (cc)
 
@@ -58,7 +60,8 @@ after_zeros (suc zeros) ds = after_zeros zeros ds
 padded_numeral : (width n : ℕ) → width ≤ 7 → n < 10000000 → IsNumeral n (padded width n)
 padded_numeral width n h small =
     let plain = numeral n small in
-    let size : length (padded width n) ≡ (width - length (decimal n)) + length (decimal n) = length-append (replicate (width - length (decimal n)) 48)
+    let size : length (padded width n) ≡ (width - length (decimal n)) + length (decimal n) =
+    length-append (replicate (width - length (decimal n)) 48)
     (decimal n) ∙ ap (λ k. k + length (decimal n)) (length-replicate (width - length (decimal n)) 48) in
     record {
       value = after_zeros (width - length (decimal n)) (decimal n) ∙ plain.value;
@@ -81,7 +84,8 @@ AreNumerals (n ∷ ns) [] = ⊥
 AreNumerals (n ∷ ns) (p ∷ ps) = IsNumeral n p × AreNumerals ns ps
 
 -- digits are part of the part that they begin
-parts_begin : (ds rest : List ℕ) (parts : List (List ℕ)) → list_all is_digit ds ≡ true → parts_of rest ≡ [] ∷ parts → parts_of (ds ++ rest) ≡ ds ∷ parts
+parts_begin : (ds rest : List ℕ) (parts : List (List ℕ)) → list_all is_digit ds ≡ true → parts_of rest ≡ [] ∷ parts
+    → parts_of (ds ++ rest) ≡ ds ∷ parts
 parts_begin [] rest parts h k = k
 parts_begin (b ∷ bs) rest parts h k =
     let p = both (is_digit b) (list_all is_digit bs) h in
@@ -93,7 +97,8 @@ parts_after : (ns : List ℕ) (ps : List (List ℕ)) → AreNumerals ns ps → p
 parts_after [] [] h = refl
 parts_after [] (p ∷ ps) h = absurd h
 parts_after (n ∷ ns) [] h = absurd h
-parts_after (n ∷ ns) (p ∷ ps) h = ap (λ parts. [] ∷ parts) (parts_begin p (dashes ps) ps (all_digits 0 n p h.0.value) (parts_after ns ps h.1))
+parts_after (n ∷ ns) (p ∷ ps) h = ap (λ parts. [] ∷ parts) (parts_begin p (dashes ps) ps (all_digits 0 n p h.0.value)
+    (parts_after ns ps h.1))
 
 -- what numerals with dashes between them spell
 numbers_spelled : (ns : List ℕ) (ps : List (List ℕ)) → AreNumerals ns ps → numbers_of ps ≡ Some ns
@@ -114,7 +119,8 @@ pub date_numbers : (ns text : List ℕ) → IsDate ns text → numbers_of (parts
 date_numbers [] text h = absurd h.numerals
 date_numbers (n ∷ ns) text h =
     let parts : parts_of text ≡ h.first ∷ h.others = rw h.joined
-    (parts_begin h.first (dashes h.others) h.others (all_digits 0 n h.first h.numerals.0.value) (parts_after ns h.others h.numerals.1)) in
+    (parts_begin h.first (dashes h.others) h.others (all_digits 0 n h.first h.numerals.0.value)
+    (parts_after ns h.others h.numerals.1)) in
     rw parts (numbers_spelled (n ∷ ns) (h.first ∷ h.others) h.numerals)
 
 -- ---- it is a word, and short
@@ -134,7 +140,11 @@ dashes_printed : (ns : List ℕ) (ps : List (List ℕ)) → AreNumerals ns ps �
 dashes_printed [] [] h = refl
 dashes_printed [] (p ∷ ps) h = absurd h
 dashes_printed (n ∷ ns) [] h = absurd h
-dashes_printed (n ∷ ns) (p ∷ ps) h = rw (list_all-append is_printable p (dashes ps), numeral_printed n p h.0, dashes_printed ns ps h.1) refl
+dashes_printed (n ∷ ns) (p ∷ ps) h = rw (
+  list_all-append is_printable p (dashes ps),
+  numeral_printed n p h.0,
+  dashes_printed ns ps h.1,
+) refl
 
 dashes_length : (ns : List ℕ) (ps : List (List ℕ)) → AreNumerals ns ps → length (dashes ps) ≤ 8 * length ns
 dashes_length [] [] h = omega arith
@@ -150,7 +160,8 @@ pub record IsShortWord (most : ℕ) (word : List ℕ) : Type 0 where
 pub date_word : (ns text : List ℕ) → IsDate ns text → length ns ≤ 5 → IsShortWord 40 text
 date_word [] text h few = absurd h.numerals
 date_word (n ∷ ns) text h few =
-    let size : length text ≡ length h.first + length (dashes h.others) = rw h.joined (length-append h.first (dashes h.others)) in
+    let size : length text ≡ length h.first + length (dashes h.others) =
+    rw h.joined (length-append h.first (dashes h.others)) in
     record {
       is_word = record {
         some = omega (arith, size, h.numerals.0.some);
@@ -202,7 +213,8 @@ dashed_date n ns few small = record {
   numerals = plain_numerals (n ∷ ns) small;
 }
 
-pub gregorian_date : (y m d : ℕ) → list_all is_of_seven_digits (y ∷ m ∷ d ∷ []) ≡ true → IsDate (y ∷ m ∷ d ∷ []) (gregorian_text (fields_with (y ∷ m ∷ d ∷ [])))
+pub gregorian_date : (y m d : ℕ) → list_all is_of_seven_digits (y ∷ m ∷ d ∷ []) ≡ true
+    → IsDate (y ∷ m ∷ d ∷ []) (gregorian_text (fields_with (y ∷ m ∷ d ∷ [])))
 unfolding gregorian_text
 gregorian_date y m d h =
     let p = both (is_of_seven_digits y) (list_all is_of_seven_digits (m ∷ d ∷ [])) h in
@@ -217,6 +229,9 @@ gregorian_date y m d h =
       joined = refl;
       numerals = (
         padded_numeral 4 y (omega arith) (grind (arith, nat_tests)),
-        (padded_numeral 2 m (omega arith) (grind (arith, nat_tests)), (padded_numeral 2 d (omega arith) (grind (arith, nat_tests)), tt)),
+        (
+          padded_numeral 2 m (omega arith) (grind (arith, nat_tests)),
+          (padded_numeral 2 d (omega arith) (grind (arith, nat_tests)), tt),
+        ),
       );
     }

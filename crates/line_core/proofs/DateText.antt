@@ -1,5 +1,6 @@
 -- The parts of a date's text, and the numbers that digits spell.
-use Rattle.std.proofs.Common.{◌≡◌, ℕ, zero, suc, ◌+◌, ◌-◌, ◌^◌, ◌<◌, ◌≤◌, Bool, true, false, cond, List, [], ◌∷◌, length, take, drop, ap, refl, arith, nat_lt}
+use Rattle.std.proofs.Common.{◌≡◌, ℕ, zero, suc, ◌+◌, ◌-◌, ◌^◌, ◌<◌, ◌≤◌, Bool, true, false, cond, List, [], ◌∷◌}
+use Rattle.std.proofs.Common.{length, take, drop, ap, refl, arith, nat_lt}
 use native.Mathlib.Numerals.{unary_clauses}
 use borrow.Author.Tests.{ltb-true, ltb-false}
 use Rattle.std.specs.Prelude.{◌==◌, Some, None, not}
@@ -13,13 +14,16 @@ abbrev pub to_dash : List ℕ → ℕ
 to_dash bs = position_or_len (λ b. b == 45) bs
 
 -- the first part ends at the first dash
-at_dash : (bs : List ℕ) → to_dash bs < length bs → parts_of bs ≡ take (to_dash bs) bs ∷ parts_of (drop (to_dash bs + 1) bs)
+at_dash : (bs : List ℕ) → to_dash bs < length bs → parts_of bs ≡ take (to_dash bs) bs ∷ parts_of
+    (drop (to_dash bs + 1) bs)
 at_dash [] h = absurd (omega arith)
 at_dash (b ∷ bs) h = step (b == 45) (at_dash bs) h
   where
-    step : (t : Bool) → (to_dash bs < length bs → parts_of bs ≡ take (to_dash bs) bs ∷ parts_of (drop (to_dash bs + 1) bs))
+    step : (t : Bool)
+        → (to_dash bs < length bs → parts_of bs ≡ take (to_dash bs) bs ∷ parts_of (drop (to_dash bs + 1) bs))
         → cond (not t) (1 + to_dash bs) 0 < length (b ∷ bs) → cond t ([] ∷ parts_of bs) (onto_first b (parts_of bs))
-        ≡ take (cond (not t) (1 + to_dash bs) 0) (b ∷ bs) ∷ parts_of (drop (cond (not t) (1 + to_dash bs) 0 + 1) (b ∷ bs))
+        ≡ take (cond (not t) (1 + to_dash bs) 0) (b ∷ bs) ∷ parts_of
+        (drop (cond (not t) (1 + to_dash bs) 0 + 1) (b ∷ bs))
     step true first h = refl
     step false first h =
         let rest : parts_of bs ≡ take (to_dash bs) bs ∷ parts_of (drop (to_dash bs + 1) bs) = first (omega arith) in
@@ -31,7 +35,8 @@ no_dash : (bs : List ℕ) → length bs ≤ to_dash bs → parts_of bs ≡ bs �
 no_dash [] h = refl
 no_dash (b ∷ bs) h = step (b == 45) (no_dash bs) h
   where
-    step : (t : Bool) → (length bs ≤ to_dash bs → parts_of bs ≡ bs ∷ []) → length (b ∷ bs) ≤ cond (not t) (1 + to_dash bs) 0
+    step : (t : Bool) → (length bs ≤ to_dash bs → parts_of bs ≡ bs ∷ [])
+        → length (b ∷ bs) ≤ cond (not t) (1 + to_dash bs) 0
         → cond t ([] ∷ parts_of bs) (onto_first b (parts_of bs)) ≡ (b ∷ bs) ∷ []
     step true last h = absurd (omega arith)
     step false last h = ap (onto_first b) (last (omega arith))
@@ -42,10 +47,12 @@ pub record IsPlace (i place length : ℕ) : Type 0 where
   pub before_end : place < length
 
 -- what `position` gives is the first place that passes
-pub found_at : (p : ℕ → Bool) (xs : List ℕ) (i : ℕ) → Some i ≡ position p xs → IsPlace i (position_or_len p xs) (length xs)
+pub found_at : (p : ℕ → Bool) (xs : List ℕ) (i : ℕ) → Some i ≡ position p xs
+    → IsPlace i (position_or_len p xs) (length xs)
 found_at p xs i h = chosen (nat_lt (position_or_len p xs) (length xs)) refl h
   where
-    chosen : (t : Bool) → nat_lt (position_or_len p xs) (length xs) ≡ t → Some i ≡ cond t (Some (position_or_len p xs)) None
+    chosen : (t : Bool) → nat_lt (position_or_len p xs) (length xs) ≡ t
+        → Some i ≡ cond t (Some (position_or_len p xs)) None
         → IsPlace i (position_or_len p xs) (length xs)
     chosen true e h = record { same = cc; before_end = ltb-true _ _ e }
     chosen false e h = cc
@@ -54,7 +61,8 @@ found_at p xs i h = chosen (nat_lt (position_or_len p xs) (length xs)) refl h
 pub not_found : (p : ℕ → Bool) (xs : List ℕ) → None ≡ position p xs → length xs ≤ position_or_len p xs
 not_found p xs h = chosen (nat_lt (position_or_len p xs) (length xs)) refl h
   where
-    chosen : (t : Bool) → nat_lt (position_or_len p xs) (length xs) ≡ t → None ≡ cond t (Some (position_or_len p xs)) None → length xs ≤ position_or_len p xs
+    chosen : (t : Bool) → nat_lt (position_or_len p xs) (length xs) ≡ t
+        → None ≡ cond t (Some (position_or_len p xs)) None → length xs ≤ position_or_len p xs
     chosen true e h = cc
     chosen false e h = ltb-false _ _ e
 
@@ -80,7 +88,8 @@ parts_exist (b ∷ bs) = step (b == 45) (parts_of bs)
 -- powers of ten rise
 powers_rise : (k n : ℕ) → 10 ^ k ≤ 10 ^ (n + k)
 powers_rise k zero = let same : 0 + k ≡ k = omega arith in rw same (omega arith)
-powers_rise k (suc n) = let next : suc n + k ≡ suc (n + k) = omega arith in rw next (omega (arith, powers_rise k n, pow-suc 10 (n + k)))
+powers_rise k (suc n) = let next : suc n + k ≡ suc (n + k) = omega arith in
+    rw next (omega (arith, powers_rise k n, pow-suc 10 (n + k)))
 
 -- a number of six digits or fewer
 pub few_digits : (k n : ℕ) → k < 7 → n < 10 ^ k → n < 1000000

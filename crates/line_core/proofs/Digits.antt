@@ -1,5 +1,6 @@
 -- The digits of a number spell it, with leading zeros too.
-use Rattle.std.proofs.Common.{◌≡◌, ℕ, ◌+◌, ◌-◌, ◌*◌, ◌/◌, ◌%◌, ◌^◌, ◌<◌, ◌≤◌, Bool, true, false, List, [], ◌∷◌, ◌++◌, length, length-append, get_or, refl, arith, nat_lt, decimal}
+use Rattle.std.proofs.Common.{◌≡◌, ℕ, ◌+◌, ◌-◌, ◌*◌, ◌/◌, ◌%◌, ◌^◌, ◌<◌, ◌≤◌, Bool, true, false, List, [], ◌∷◌, ◌++◌}
+use Rattle.std.proofs.Common.{length, length-append, get_or, refl, arith, nat_lt, decimal}
 use Rattle.std.proofs.lemmas.Bool.Decides.{nat_tests}
 use Rattle.std.proofs.lemmas.Fmt.{decimal_by_steps_wide}
 use Rattle.std.proofs.lemmas.List.Folds.{list_all-append}
@@ -8,15 +9,18 @@ use Rattle.std.specs.Prelude.{Some, None, ◌&&◌, if◌then◌else◌}
 use Rattle.book_model.specs.lines.Lines.{is_printable, value_from}
 
 -- one digit more
-value_end : (k m d : ℕ) (ds : List ℕ) → value_from k ds ≡ Some m → 48 ≤ d → d < 58 → value_from k (ds ++ d ∷ []) ≡ Some (10 * m + (d - 48))
+value_end : (k m d : ℕ) (ds : List ℕ) → value_from k ds ≡ Some m → 48 ≤ d → d < 58
+    → value_from k (ds ++ d ∷ []) ≡ Some (10 * m + (d - 48))
 value_end k m d [] h low high =
     let same : k ≡ m = cc in
     let digit : (nat_lt 47 d && nat_lt d 58) ≡ true = grind (arith, nat_tests) in
     rw (digit, same) refl
-value_end k m d (b ∷ bs) h low high = step (nat_lt 47 b && nat_lt b 58) h (λ e. value_end (10 * k + (b - 48)) m d bs e low high)
+value_end k m d (b ∷ bs) h low high = step (nat_lt 47 b && nat_lt b 58) h
+    (λ e. value_end (10 * k + (b - 48)) m d bs e low high)
   where
     step : (t : Bool) → (if t then value_from (10 * k + (b - 48)) bs else None) ≡ Some m
-        → (value_from (10 * k + (b - 48)) bs ≡ Some m → value_from (10 * k + (b - 48)) (bs ++ d ∷ []) ≡ Some (10 * m + (d - 48)))
+        → (value_from (10 * k + (b - 48)) bs ≡ Some m → value_from (10 * k + (b - 48)) (bs ++ d ∷ []) ≡ Some
+        (10 * m + (d - 48)))
         → (if t then value_from (10 * k + (b - 48)) (bs ++ d ∷ []) else None) ≡ Some (10 * m + (d - 48))
     step true h rest = rest h
     step false h rest = cc
@@ -58,7 +62,8 @@ digit_more n ds h s =
       first = λ k. rw (first_stays ds (48 + n % 10) s.some) (s.first prefix);
       digit = rw (first_stays ds (48 + n % 10) s.some) s.digit;
       alone = λ e. absurd (omega arith);
-      printed = rw (list_all-append is_printable ds ((48 + n % 10) ∷ [])) (rw s.printed (digit_spells (n % 10) (omega arith)).printed);
+      printed = rw (list_all-append is_printable ds ((48 + n % 10) ∷ []))
+          (rw s.printed (digit_spells (n % 10) (omega arith)).printed);
     }
 
 pub digits_spell : (n : ℕ) → n < 10 ^ 64 → Spells n (decimal n)

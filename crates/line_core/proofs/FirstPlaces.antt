@@ -1,5 +1,6 @@
 -- The first place where a test passes, as a search for bytes tells it.
-use Rattle.std.proofs.Common.{◌≡◌, ℕ, zero, suc, ◌+◌, Bool, true, false, cond, List, [], ◌∷◌, length, nat_lt, refl, arith}
+use Rattle.std.proofs.Common.{◌≡◌, ℕ, zero, suc, ◌+◌, Bool, true, false, cond, List, [], ◌∷◌, length, nat_lt, refl}
+use Rattle.std.proofs.Common.{arith}
 use borrow.Author.Tests.{ltb-true, ltb-false}
 use Rattle.std.specs.Prelude.{Option, Some, None, not}
 use Rattle.std.specs.List.{position_or_len, position}
@@ -9,14 +10,17 @@ module _ (p : ℕ → Bool) where
   -- where no place passes, the place is the length
   passed_nowhere : (xs : List ℕ) → Nowhere (Passes p xs) 0 (length xs) → position_or_len p xs ≡ length xs
   passed_nowhere [] h = refl
-  passed_nowhere (x ∷ xs) h = step (p x) refl (passed_nowhere xs (λ k low high passes. h (suc k) (omega arith) (omega arith) passes))
+  passed_nowhere (x ∷ xs) h =
+      step (p x) refl (passed_nowhere xs (λ k low high passes. h (suc k) (omega arith) (omega arith) passes))
     where
-      step : (t : Bool) → p x ≡ t → position_or_len p xs ≡ length xs → cond (not t) (1 + position_or_len p xs) 0 ≡ length (x ∷ xs)
+      step : (t : Bool) → p x ≡ t → position_or_len p xs ≡ length xs → cond (not t) (1 + position_or_len p xs) 0
+          ≡ length (x ∷ xs)
       step true e rest = absurd (h 0 (omega arith) (omega arith) e)
       step false e rest = omega (arith, rest)
 
   -- and else it is the first that does
-  passed_at : (xs : List ℕ) (k : ℕ) → NoneBefore (Passes p xs) 0 (length xs) k → Passes p xs k → position_or_len p xs ≡ k
+  passed_at : (xs : List ℕ) (k : ℕ) → NoneBefore (Passes p xs) 0 (length xs) k → Passes p xs k
+      → position_or_len p xs ≡ k
   passed_at [] k first passes = absurd (omega (arith, first.high))
   passed_at (x ∷ xs) zero first passes = rw passes refl
   passed_at (x ∷ xs) (suc k) first passes = step (p x) refl (passed_at xs k shorter passes)

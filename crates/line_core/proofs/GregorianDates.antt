@@ -15,7 +15,8 @@ abbrev pub three : ℤ → ℤ → ℤ → Fields
 three y m d = record { count = 3; values = y ∷ m ∷ d ∷ pos 0 ∷ pos 0 ∷ [] }
 
 -- the fields of the date of a day
-pub fields_of_date : (day year : ℤ) (month day_of : ℕ) → IsDateOfDay year month day_of day → negsuc 2147483647 ≤ℤ year → year ≤ℤ pos 2147483647
+pub fields_of_date : (day year : ℤ) (month day_of : ℕ) → IsDateOfDay year month day_of day → negsuc 2147483647 ≤ℤ year
+    → year ≤ℤ pos 2147483647
     → gregorian_fields_on day ≡ three year (pos month) (pos day_of)
 unfolding gregorian_fields_on
 fields_of_date day year month day_of is low high = rw (is.year, is.month, is.day, small_is_nearest year low high) refl

@@ -1,5 +1,6 @@
 -- The first line, and the others.
-use Rattle.std.proofs.Common.{◌≡◌, ℕ, suc, ◌+◌, ◌<◌, ◌≤◌, Bool, true, false, cond, List, [], ◌∷◌, length, take, drop, ap, refl, arith, nat_lt}
+use Rattle.std.proofs.Common.{◌≡◌, ℕ, suc, ◌+◌, ◌<◌, ◌≤◌, Bool, true, false, cond, List, [], ◌∷◌, length, take, drop}
+use Rattle.std.proofs.Common.{ap, refl, arith, nat_lt}
 use native.Mathlib.Numerals.{unary_clauses}
 use borrow.Author.Tests.{ltb-true, ltb-false}
 use Rattle.std.specs.Prelude.{◌==◌, Some, None, not}
@@ -23,7 +24,8 @@ raw_step b bs false first h =
     rw (rest, one) (simp unary_clauses)
 
 -- the first line ends at the first line feed
-pub raw_first : (bs : List ℕ) → at_end bs < length bs → raw_lines bs ≡ take (at_end bs) bs ∷ raw_lines (drop (at_end bs + 1) bs)
+pub raw_first : (bs : List ℕ) → at_end bs < length bs → raw_lines bs ≡ take (at_end bs) bs ∷ raw_lines
+    (drop (at_end bs + 1) bs)
 raw_first [] h = absurd (omega arith)
 raw_first (b ∷ bs) h = raw_step b bs (b == 10) (raw_first bs) h
 
@@ -58,7 +60,8 @@ not_chosen true a h = cc
 not_chosen false a h = refl
 
 -- at a line feed
-pub raw_at : (bs : List ℕ) (i : ℕ) → Some i ≡ position (λ b. b == 10) bs → raw_lines bs ≡ take i bs ∷ raw_lines (drop (i + 1) bs)
+pub raw_at : (bs : List ℕ) (i : ℕ) → Some i ≡ position (λ b. b == 10) bs
+    → raw_lines bs ≡ take i bs ∷ raw_lines (drop (i + 1) bs)
 raw_at bs i h =
     let c = chosen (nat_lt (at_end bs) (length bs)) (at_end bs) i h in
     rw c.1 (raw_first bs (ltb-true _ _ c.0))
@@ -66,4 +69,5 @@ raw_at bs i h =
 -- with no line feed
 pub raw_none : (bs : List ℕ) → 0 < length bs → None ≡ position (λ b. b == 10) bs → raw_lines bs ≡ bs ∷ []
 raw_none [] some h = absurd (omega arith)
-raw_none (b ∷ bs) some h = raw_last (b ∷ bs) (ltb-false _ _ (not_chosen (nat_lt (at_end (b ∷ bs)) (length (b ∷ bs))) (at_end (b ∷ bs)) h))
+raw_none (b ∷ bs) some h =
+    raw_last (b ∷ bs) (ltb-false _ _ (not_chosen (nat_lt (at_end (b ∷ bs)) (length (b ∷ bs))) (at_end (b ∷ bs)) h))

@@ -1,5 +1,6 @@
 -- The words of a line, cut off one by one.
-use Rattle.std.proofs.Common.{◌≡◌, ◌∙◌, ℕ, suc, ◌+◌, Bool, true, false, List, [], ◌∷◌, length, take, drop, get_or, ap, refl, arith}
+use Rattle.std.proofs.Common.{◌≡◌, ◌∙◌, ℕ, suc, ◌+◌, Bool, true, false, List, [], ◌∷◌, length, take, drop, get_or, ap}
+use Rattle.std.proofs.Common.{refl, arith}
 use Rattle.std.specs.Prelude.{Some, None, not}
 use Rattle.std.specs.List.{position_or_len, position}
 use Rattle.std.proofs.lemmas.List.{drop_more, drop_all}
@@ -20,7 +21,8 @@ skip_blanks : (bs : List ℕ) → words_of bs ≡ words_of (drop (blanks bs) bs)
 skip_blanks [] = refl
 skip_blanks (b ∷ bs) = step (is_blank b) refl (skip_blanks bs)
   where
-    step : (t : Bool) → is_blank b ≡ t → words_of bs ≡ words_of (drop (blanks bs) bs) → words_of (b ∷ bs) ≡ words_of (drop (blanks (b ∷ bs)) (b ∷ bs))
+    step : (t : Bool) → is_blank b ≡ t → words_of bs ≡ words_of (drop (blanks bs) bs)
+        → words_of (b ∷ bs) ≡ words_of (drop (blanks (b ∷ bs)) (b ∷ bs))
     step true e rest = let one : 1 + blanks bs ≡ suc (blanks bs) = omega arith in rw (e, one) rest
     step false e rest = let none : blanks (b ∷ bs) ≡ 0 = rw e refl in rw none refl
 
@@ -31,7 +33,8 @@ take_word b [] e = rw e refl
 take_word b (c ∷ cs) e = step (is_blank c) refl (λ f. take_word c cs f)
   where
     step : (t : Bool) → is_blank c ≡ t → (is_blank c ≡ false → words_of (c ∷ cs)
-        ≡ take (word_length (c ∷ cs)) (c ∷ cs) ∷ words_of (drop (word_length (c ∷ cs)) (c ∷ cs))) → words_of (b ∷ c ∷ cs)
+        ≡ take (word_length (c ∷ cs)) (c ∷ cs) ∷ words_of (drop (word_length (c ∷ cs)) (c ∷ cs)))
+        → words_of (b ∷ c ∷ cs)
         ≡ take (word_length (b ∷ c ∷ cs)) (b ∷ c ∷ cs) ∷ words_of (drop (word_length (b ∷ c ∷ cs)) (b ∷ c ∷ cs))
     step true f rest =
         let words : words_of (b ∷ c ∷ cs) ≡ (b ∷ []) ∷ words_of (c ∷ cs) = rw (e, f) refl in
@@ -48,8 +51,10 @@ pub words_at : (line : List ℕ) (i : ℕ) → Some i ≡ position (λ b. not (i
 words_at line i h =
     let f = found_at (λ b. not (is_blank b)) line i h in
     let split = drop_more line (blanks line) 0 f.before_end in
-    let begins : is_blank (get_or line (blanks line) 0) ≡ false = opposite _ (passes_at_first (λ b. not (is_blank b)) line 0 f.before_end) in
-    rw f.same (skip_blanks line ∙ rw split (take_word (get_or line (blanks line) 0) (drop (blanks line + 1) line) begins))
+    let begins : is_blank (get_or line (blanks line) 0) ≡ false =
+    opposite _ (passes_at_first (λ b. not (is_blank b)) line 0 f.before_end) in
+    rw f.same (skip_blanks line ∙ rw split (take_word (get_or line (blanks line) 0) (drop (blanks line + 1) line)
+    begins))
   where
     opposite : (t : Bool) → not t ≡ true → t ≡ false
     opposite true e = cc
@@ -57,7 +62,8 @@ words_at line i h =
 
 -- no words, where no word begins
 pub words_none : (line : List ℕ) → None ≡ position (λ b. not (is_blank b)) line → words_of line ≡ []
-words_none line h = skip_blanks line ∙ ap words_of (drop_all (blanks line) line (not_found (λ b. not (is_blank b)) line h))
+words_none line h = skip_blanks line ∙ ap words_of
+    (drop_all (blanks line) line (not_found (λ b. not (is_blank b)) line h))
 
 -- a line with no blank ends with its first word
 pub no_blank : (line : List ℕ) → None ≡ position is_blank line → length line ≡ word_length line

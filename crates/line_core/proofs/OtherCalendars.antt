@@ -13,7 +13,8 @@ other_month Gregorian f other = absurd (other refl)
 other_month _ f other = refl
 
 -- nor of their days
-pub other_day : (reach : ℤ × ℤ) (c : Calendar) (f : Fields) → (c ≡ Gregorian → ⊥) → (c ≡ Fixed → ⊥) → true ≡ has_day_in_reach reach c f
+pub other_day : (reach : ℤ × ℤ) (c : Calendar) (f : Fields) → (c ≡ Gregorian → ⊥) → (c ≡ Fixed → ⊥)
+    → true ≡ has_day_in_reach reach c f
 other_day reach Gregorian f other and_other = absurd (other refl)
 other_day reach Fixed f other and_other = absurd (and_other refl)
 other_day reach _ f other and_other = refl
@@ -25,4 +26,5 @@ both false b h = cc
 -- the Gregorian calendar has each date that it may have
 pub gregorian_has : (f : Fields) → IsTrue (may_have Gregorian f) → IsTrue (is_date (field f 0) (field f 1) (field f 2))
 unfolding may_have
-gregorian_has f h = both ((f.count == (row_of Gregorian).count) && are_within (row_of Gregorian) f) (has_day_of_month Gregorian f) h
+gregorian_has f h = both ((f.count == (row_of Gregorian).count) && are_within (row_of Gregorian) f)
+    (has_day_of_month Gregorian f) h

@@ -1,5 +1,6 @@
 -- What three words ask, by the line that they are with single spaces.
-use Rattle.std.proofs.Common.{◌≡◌, ℕ, ◌+◌, true, false, List, [], ◌∷◌, ◌++◌, length, length-append, append-nil, refl, arith}
+use Rattle.std.proofs.Common.{◌≡◌, ℕ, ◌+◌, true, false, List, [], ◌∷◌, ◌++◌, length, length-append, append-nil, refl}
+use Rattle.std.proofs.Common.{arith}
 use Rattle.std.specs.List.{list_all}
 use Rattle.std.specs.Prelude.{nat_le, Err}
 use Rattle.book_model.specs.declared.request.Rule.TheVariants.{Syntax}
@@ -17,24 +18,30 @@ unfolding three_words_text
 text_spaced from date to = simp append-nil
 
 -- how long it is
-pub text_length : (from date to : List ℕ) → length (three_words_text from date to) ≡ length from + length date + length to + 2
+pub text_length : (from date to : List ℕ) → length (three_words_text from date to) ≡ length from + length date
+    + length to + 2
 unfolding three_words_text
 text_length from date to = omega (arith, length-append {A = ℕ})
 
 -- a long line breaks the first rule
-pub asked_long : (version : Version) (from date to : List ℕ) → nat_le (length (three_words_text from date to)) 200 ≡ false → Err Syntax
+pub asked_long : (version : Version) (from date to : List ℕ) → nat_le (length (three_words_text from date to)) 200
+    ≡ false → Err Syntax
     ≡ request_of version (three_words_text from date to)
 asked_long version from date to long =
     let unread : is_readable (three_words_text from date to) ≡ false = rw long refl in
     asked_unreadable version (three_words_text from date to) unread
 
 -- any other asks what the words ask
-pub asked_words : (version : Version) (from date to : List ℕ) → IsWord from → IsWord date → IsWord to → nat_le (length (three_words_text from date to)) 200
+pub asked_words : (version : Version) (from date to : List ℕ) → IsWord from → IsWord date → IsWord to
+    → nat_le (length (three_words_text from date to)) 200
     ≡ true
-    → with_words version (from_word_in version from) date (to_word_in version to) ≡ request_of version (three_words_text from date to)
+    → with_words version (from_word_in version from) date (to_word_in version to) ≡ request_of version
+    (three_words_text from date to)
 asked_words version from date to f d t short =
     let same = text_spaced from date to in
-    let plain : list_all is_plain (three_words_text from date to) ≡ true = rw same (plain_line from (date ∷ to ∷ []) f (d, (t, tt))) in
-    let words : words_of (three_words_text from date to) ≡ from ∷ date ∷ to ∷ [] = rw same (words_read from (date ∷ to ∷ []) f (d, (t, tt))) in
+    let plain : list_all is_plain (three_words_text from date to) ≡ true =
+    rw same (plain_line from (date ∷ to ∷ []) f (d, (t, tt))) in
+    let words : words_of (three_words_text from date to) ≡ from ∷ date ∷ to ∷ [] =
+    rw same (words_read from (date ∷ to ∷ []) f (d, (t, tt))) in
     let read : is_readable (three_words_text from date to) ≡ true = rw (short, plain) refl in
     asked_three version (three_words_text from date to) from date to read words

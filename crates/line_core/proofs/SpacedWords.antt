@@ -4,7 +4,8 @@ use Rattle.std.proofs.lemmas.Bool.Decides.{nat_tests}
 use Rattle.std.proofs.lemmas.List.Folds.{list_all-append}
 use Rattle.std.specs.List.{list_all}
 use Rattle.std.specs.Prelude.{◌&&◌, ◌==◌, if◌then◌else◌}
-use Rattle.book_model.specs.lines.Lines.{is_blank, is_plain, is_printable, IsWord, AreWords, words_of, onto_first, onto_word}
+use Rattle.book_model.specs.lines.Lines.{is_blank, is_plain, is_printable, IsWord, AreWords, words_of, onto_first}
+use Rattle.book_model.specs.lines.Lines.{onto_word}
 
 -- words, each after a space
 abbrev pub spaced : List (List ℕ) → List ℕ
@@ -43,7 +44,8 @@ pub tail_printed : (b : ℕ) (bs : List ℕ) → list_all is_printable (b ∷ bs
 tail_printed b bs h = (both (is_printable b) (list_all is_printable bs) h).1
 
 -- the words of what begins with a word
-words_begin : (b : ℕ) (bs : List ℕ) (ws : List (List ℕ)) → list_all is_printable (b ∷ bs) ≡ true → words_of (spaced ws) ≡ ws → words_of ((b ∷ bs) ++ spaced ws)
+words_begin : (b : ℕ) (bs : List ℕ) (ws : List (List ℕ)) → list_all is_printable (b ∷ bs) ≡ true
+    → words_of (spaced ws) ≡ ws → words_of ((b ∷ bs) ++ spaced ws)
     ≡ (b ∷ bs) ∷ ws
 words_begin b [] [] h rest = rw (head_inner b [] h).blank refl
 words_begin b [] (w ∷ ws) h rest = rw (head_inner b [] h).blank (ap (λ t. (b ∷ []) ∷ t) rest)
@@ -51,7 +53,8 @@ words_begin b (c ∷ cs) ws h rest =
     let more : list_all is_printable (c ∷ cs) ≡ true = tail_printed b (c ∷ cs) h in
     let first : is_blank b ≡ false = (head_inner b (c ∷ cs) h).blank in
     let second : is_blank c ≡ false = (head_inner c cs more).blank in
-    let words : words_of (b ∷ c ∷ (cs ++ spaced ws)) ≡ onto_first b (words_of (c ∷ (cs ++ spaced ws))) = rw (first, second) refl in
+    let words : words_of (b ∷ c ∷ (cs ++ spaced ws)) ≡ onto_first b (words_of (c ∷ (cs ++ spaced ws))) =
+    rw (first, second) refl in
     words ∙ ap (onto_first b) (words_begin c cs ws more rest)
 
 words_spaced : (ws : List (List ℕ)) → AreWords ws → words_of (spaced ws) ≡ ws
@@ -71,7 +74,8 @@ plain_bytes (b ∷ bs) h = rw ((head_inner b bs h).plain, plain_bytes bs (tail_p
 
 plain_spaced : (ws : List (List ℕ)) → AreWords ws → list_all is_plain (spaced ws) ≡ true
 plain_spaced [] h = refl
-plain_spaced (w ∷ ws) h = rw (list_all-append is_plain w (spaced ws), plain_bytes w h.0.printed, plain_spaced ws h.1) refl
+plain_spaced (w ∷ ws) h = rw (list_all-append is_plain w (spaced ws), plain_bytes w h.0.printed, plain_spaced ws h.1)
+    refl
 
 -- and so is each byte of words with spaces between them
 pub plain_line : (w : List ℕ) (ws : List (List ℕ)) → IsWord w → AreWords ws → list_all is_plain (w ++ spaced ws) ≡ true
@@ -86,7 +90,8 @@ first_longer : (b : ℕ) (ws : List (List ℕ)) → is_printable b ≡ true → 
 first_longer b [] h k = (alone_word b h, tt)
 first_longer b (w ∷ ws) h k = (record { some = omega arith; printed = rw (h, k.0.printed) refl }, k.1)
 
-word_longer : (b : ℕ) (bs : List ℕ) (ws : List (List ℕ)) → is_printable b ≡ true → AreWords ws → AreWords (onto_word b bs ws)
+word_longer : (b : ℕ) (bs : List ℕ) (ws : List (List ℕ)) → is_printable b ≡ true → AreWords ws
+    → AreWords (onto_word b bs ws)
 word_longer b [] ws h k = (alone_word b h, k)
 word_longer b (c ∷ cs) ws h k = step (is_blank c)
   where
@@ -101,7 +106,8 @@ plain_words (b ∷ bs) h =
     let p = both (is_plain b) (list_all is_plain bs) h in
     step (is_blank b) refl p.0 (plain_words bs p.1)
   where
-    step : (t : Bool) → is_blank b ≡ t → is_plain b ≡ true → AreWords (words_of bs) → AreWords (if t then words_of bs else onto_word b bs (words_of bs))
+    step : (t : Bool) → is_blank b ≡ t → is_plain b ≡ true → AreWords (words_of bs)
+        → AreWords (if t then words_of bs else onto_word b bs (words_of bs))
     step true e plain rest = rest
     step false e plain rest =
         let printable : is_printable b ≡ true = grind (arith, nat_tests) in

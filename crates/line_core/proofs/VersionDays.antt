@@ -1,4 +1,5 @@
--- The days that a line of the written version may name: the calendars of its words tell their dates, and facts may be asked of them.
+-- The days that a line of the written version may name: the calendars of its words tell their dates, and facts may be
+-- asked of them.
 use Rattle.std.proofs.Common.{◌≡◌, arith}
 use Rattle.std.proofs.lemmas.Int.{ints}
 use Rattle.std.specs.Prelude.{IsTrue, ℤ, pos, ◌≤ℤ◌}
@@ -41,7 +42,8 @@ told_by (Date c) day w h = (h, w.to)
 told_by (Value kind place) day w h = written_fact day w
 
 -- of a day that a line may name there is what its last word shows
-pub shown_told : (from : FromWord) (to : ToWord) (day : ℤ) → IsTrue (is_reached WRITTEN from to day) → IsTold (shown_by to) day
+pub shown_told : (from : FromWord) (to : ToWord) (day : ℤ) → IsTrue (is_reached WRITTEN from to day)
+    → IsTold (shown_by to) day
 shown_told from to day h = told_by (shown_by to) day (written_day from to day h) (told_from WRITTEN from to day h).1
 
 -- what a word names days by tells the date of a day from the first one on
@@ -50,11 +52,13 @@ told_in (Date c) day w h = (h, w.to)
 told_in (Value kind place) day w h = (w.from, w.to)
 
 -- of a day that a line may name the calendar of its first word tells the date
-pub named_told : (from : FromWord) (to : ToWord) (day : ℤ) → IsTrue (is_reached WRITTEN from to day) → IsDateDay (calendar_of from) day
+pub named_told : (from : FromWord) (to : ToWord) (day : ℤ) → IsTrue (is_reached WRITTEN from to day)
+    → IsDateDay (calendar_of from) day
 named_told from to day h = told_in (named_by from) day (written_day from to day h) (told_from WRITTEN from to day h).0
 
 -- a date that a line answers is one that its calendar may be asked the day of
-pub asked_date : (version : Version) (reach : ℤ × ℤ) (c d : Calendar) (f : Fields) → d ≡ c → IsTrue (may_have d f) → IsTrue (is_answered version reach d f)
+pub asked_date : (version : Version) (reach : ℤ × ℤ) (c d : Calendar) (f : Fields) → d ≡ c → IsTrue (may_have d f)
+    → IsTrue (is_answered version reach d f)
     → IsAskable c f
 asked_date version reach c d f same possible h = askable version reach c f (rw same at possible) (rw same at h)
 
@@ -63,4 +67,5 @@ pub asked_day : (version : Version) (from : FromWord) (to : ToWord) (c : Calenda
     → IsTrue (is_answered version (reach_of version from to) c f) → IsFactDay (gregorian_day f)
 asked_day version from to c f same h =
     let near = answered_day version (reach_of version from to) f (rw same at h) in
-    written_fact (gregorian_day f) (written_day from to (gregorian_day f) (later_days version from to (gregorian_day f) near))
+    written_fact (gregorian_day f)
+    (written_day from to (gregorian_day f) (later_days version from to (gregorian_day f) near))

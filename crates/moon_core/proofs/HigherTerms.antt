@@ -15,10 +15,13 @@ unfolding sum
 regrouped everything j k = record { endpoints = tt }
 regrouped (between a b) everything k = record { endpoints = tt }
 regrouped (between a b) (between c d) everything = record { endpoints = tt }
-regrouped (between a b) (between c d) (between e f) = record { endpoints = (ge_of_same (plus_assoc a c e), le_of_same (plus_assoc b d f)) }
+regrouped (between a b) (between c d) (between e f) =
+    record { endpoints = (ge_of_same (plus_assoc a c e), le_of_same (plus_assoc b d f)) }
 
 -- what holds the sum of the constant, the linear term and the higher terms holds the quartic
 pub with_higher : {E : Type 0} (shown : E → Interval) (w : World) (p : Quartic) (x : Expression) (e : E)
-    → Within shown w (add (add (constant (fraction_of p.constant)) (scale (fraction_of p.linear) x)) (higher_sum_of p x)) e → Within shown w (quartic_of p x) e
+    → Within shown w (add (add (constant (fraction_of p.constant)) (scale (fraction_of p.linear) x))
+    (higher_sum_of p x)) e → Within shown w (quartic_of p x) e
 unfolding Lies value quartic_of higher_sum_of
-with_higher shown w p x e h = record { deep = h.deep; inside = within_trans (regrouped _ _ _) (within_trans (regrouped _ _ _) h.inside) }
+with_higher shown w p x e h =
+    record { deep = h.deep; inside = within_trans (regrouped _ _ _) (within_trans (regrouped _ _ _) h.inside) }

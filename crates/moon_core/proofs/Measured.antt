@@ -1,6 +1,7 @@
 -- How wide the moon's longitude, latitude and phase are at the scale 2^-56, and the numbers of months by which new
 -- moons are found.
-use Rattle.std.specs.Prelude.{◌≡◌, ℕ, ◌+◌, ◌*◌, ◌/◌, ◌^◌, ◌≤◌, ◌<◌, true, ℤ, pos, neg_ℤ, refl, if◌then◌else◌, ◌==◌, Result, Ok, Err, IfOk}
+use Rattle.std.specs.Prelude.{◌≡◌, ℕ, ◌+◌, ◌*◌, ◌/◌, ◌^◌, ◌≤◌, ◌<◌, true, ℤ, pos, neg_ℤ, refl, if◌then◌else◌, ◌==◌}
+use Rattle.std.specs.Prelude.{Result, Ok, Err, IfOk}
 use Rattle.std.proofs.Common.{arith}
 use Rattle.std.proofs.lemmas.Int.{ints}
 use Rattle.book_model.specs.Interval.{Interval}
@@ -8,12 +9,17 @@ use Rattle.book_model.specs.declared.fail.Fail.{Fail}
 use Rattle.book_model.specs.declared.moon_tables.TheConstants.{MILLIONTH}
 use Rattle.book_model.specs.declared.new_moon_tables.TheConstants.{DAY_IN_MONTHS, DEGREE_IN_MONTHS, TURN, LATE_START}
 use Rattle.book_model.specs.declared.tables.TheConstants.{HALF}
-use Rattle.book_model.specs.numbers.Bounds.{Bound, unbounded, bounded, Reach, implies, bound_of, limits_at, limits_of, integer_bound, constant_bound, sum_bound, difference_bound, negated_bound, scaled_bound, product_bound, power_bound, maximum_bound, spanned_bound, sine_spans}
-use Rattle.book_model.specs.numbers.Expressions.{Expression, argument, integer, constant, add, subtract, scale, remainder}
+use Rattle.book_model.specs.numbers.Bounds.{Bound, unbounded, bounded, Reach, implies, bound_of, limits_at, limits_of}
+use Rattle.book_model.specs.numbers.Bounds.{integer_bound, constant_bound, sum_bound, difference_bound, negated_bound}
+use Rattle.book_model.specs.numbers.Bounds.{scaled_bound, product_bound, power_bound, maximum_bound, spanned_bound}
+use Rattle.book_model.specs.numbers.Bounds.{sine_spans}
+use Rattle.book_model.specs.numbers.Expressions.{Expression, argument, integer, constant, add, subtract, scale}
+use Rattle.book_model.specs.numbers.Expressions.{remainder}
 use Rattle.book_model.specs.numbers.Fractions.{fraction_of}
 use Rattle.book_model.specs.numbers.Polynomials.{quadratic_of, quadratic_term_of}
 use Rattle.book_model.specs.numbers.Relations.{Narrow}
-use Rattle.book_model.specs.programs.Widths.{IsAbout, IsMoment, IsUpTo, table_days, table_from, table_to, IsDated, IsSince}
+use Rattle.book_model.specs.programs.Widths.{IsAbout, IsMoment, IsUpTo, table_days, table_from, table_to, IsDated}
+use Rattle.book_model.specs.programs.Widths.{IsSince}
 use Rattle.book_model.specs.sky.Latitude.{venus_by, flattening_by}
 use Rattle.book_model.specs.sky.Phases.{size_of}
 use Rattle.book_model.specs.sky.Sun.{nutation_of}
@@ -21,7 +27,8 @@ use Rattle.encl_core.proofs.Measuring.{measured, sloped, looser}
 use Rattle.encl_core.proofs.StepWidths.{left_within}
 use Rattle.sun_core.specs.Daily.{in_centuries, has_daily, by_centuries, by_days, daily_term_of}
 use Rattle.sun_core.proofs.Measured.{days_of}
-use Rattle.moon_core.specs.Daily.{daily_quartic_of, computed_flattening_of, inequalities_by, longitude_by, millionths_by}
+use Rattle.moon_core.specs.Daily.{daily_quartic_of, computed_flattening_of, inequalities_by, longitude_by}
+use Rattle.moon_core.specs.Daily.{millionths_by}
 use Rattle.moon_core.specs.Widths.{days_and, latitude_bound, longitude_bound}
 
 -- ---- what is left of a wrap, where it answers: as wide as what was wrapped, whatever that is

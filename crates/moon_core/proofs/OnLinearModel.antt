@@ -10,11 +10,14 @@ use Rattle.moon_core.specs.LinearModels.{greatest_terms_of, other_terms_of}
 use Rattle.periodic_terms.specs.declared.tables.TheConstants.{GREATEST_TERMS}
 use Rattle.sun_core.specs.Daily.{in_centuries}
 
-terms_parted : slice_range MOON_TERMS 0 GREATEST_TERMS ++ slice_range MOON_TERMS GREATEST_TERMS (length MOON_TERMS) ≡ MOON_TERMS
+terms_parted : slice_range MOON_TERMS 0 GREATEST_TERMS ++ slice_range MOON_TERMS GREATEST_TERMS (length MOON_TERMS)
+    ≡ MOON_TERMS
 terms_parted = refl
 
-pub all_terms : {E : Type 0} {shown : E → Interval} {w : World} {e : E} (x : Expression) → Within shown w (add (greatest_terms_of x) (other_terms_of x)) e
+pub all_terms : {E : Type 0} {shown : E → Interval} {w : World} {e : E} (x : Expression)
+    → Within shown w (add (greatest_terms_of x) (other_terms_of x)) e
     → Within shown w (longitude_terms_of (in_centuries x)) e
 unfolding greatest_terms_of other_terms_of longitude_terms_of
-all_terms x h = rw terms_parted at (parted (longitude_term_of (lunar_angles_of (in_centuries x))) no_term (slice_range MOON_TERMS 0 GREATEST_TERMS)
+all_terms x h = rw terms_parted at (parted (longitude_term_of (lunar_angles_of (in_centuries x))) no_term
+    (slice_range MOON_TERMS 0 GREATEST_TERMS)
     (slice_range MOON_TERMS GREATEST_TERMS (length MOON_TERMS)) h)

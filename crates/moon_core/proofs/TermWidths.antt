@@ -3,8 +3,10 @@
 use Rattle.std.specs.Prelude.{◌≡◌, ℕ, ◌+◌, ◌*◌, ◌^◌, ◌≤◌, true, refl, pos, neg_ℤ}
 use Rattle.std.proofs.Common.{arith}
 use Rattle.book_model.specs.Interval.{Interval}
-use Rattle.book_model.specs.declared.moon_tables.TheConstants.{ECCENTRICITY_FACTOR, ELONGATION, LATITUDE_ARGUMENT, MOON_ANOMALY, MOON_LONGITUDE, SUN_ANOMALY}
-use Rattle.book_model.specs.numbers.Bounds.{Bound, bounded, implies, bound_of, limits_at, limits_of, constant_bound, sum_bound, difference_bound, scaled_bound, product_bound, power_bound}
+use Rattle.book_model.specs.declared.moon_tables.TheConstants.{ECCENTRICITY_FACTOR, ELONGATION, LATITUDE_ARGUMENT}
+use Rattle.book_model.specs.declared.moon_tables.TheConstants.{MOON_ANOMALY, MOON_LONGITUDE, SUN_ANOMALY}
+use Rattle.book_model.specs.numbers.Bounds.{Bound, bounded, implies, bound_of, limits_at, limits_of, constant_bound}
+use Rattle.book_model.specs.numbers.Bounds.{sum_bound, difference_bound, scaled_bound, product_bound, power_bound}
 use Rattle.book_model.specs.numbers.Expressions.{Expression, argument}
 use Rattle.book_model.specs.numbers.Polynomials.{quadratic_of}
 use Rattle.book_model.specs.numbers.Relations.{Narrow, Keeps}

@@ -1,10 +1,14 @@
 -- The moon's longitude and latitude as they are computed, their linear parts and periodic terms by the days from noon
 -- of 1 January 2000.
-use Rattle.book_model.specs.declared.moon_tables.TheConstants.{ECCENTRICITY_FACTOR, ELONGATION, FLATTENING, JUPITER_TERM, LATITUDE_ARGUMENT, LATITUDE_TERM, MILLIONTH, MOON_ANOMALY, MOON_LONGITUDE, SUN_ANOMALY, VENUS_TERM}
+use Rattle.book_model.specs.declared.moon_tables.TheConstants.{ECCENTRICITY_FACTOR, ELONGATION, FLATTENING}
+use Rattle.book_model.specs.declared.moon_tables.TheConstants.{JUPITER_TERM, LATITUDE_ARGUMENT, LATITUDE_TERM}
+use Rattle.book_model.specs.declared.moon_tables.TheConstants.{MILLIONTH, MOON_ANOMALY, MOON_LONGITUDE, SUN_ANOMALY}
+use Rattle.book_model.specs.declared.moon_tables.TheConstants.{VENUS_TERM}
 use Rattle.book_model.specs.declared.time_tables.TheConstants.{NOON_2000}
 use Rattle.book_model.specs.declared.polynomial.Cubic.{Cubic}
 use Rattle.book_model.specs.declared.polynomial.Quartic.{Quartic}
-use Rattle.book_model.specs.numbers.Expressions.{Expression, argument, constant, add, subtract, multiply, scale, power, sine}
+use Rattle.book_model.specs.numbers.Expressions.{Expression, argument, constant, add, subtract, multiply, scale, power}
+use Rattle.book_model.specs.numbers.Expressions.{sine}
 use Rattle.book_model.specs.numbers.Fractions.{fraction_of}
 use Rattle.book_model.specs.sky.Latitude.{venus_by, flattening_by}
 use Rattle.book_model.specs.sky.Moon.{LunarAngles}

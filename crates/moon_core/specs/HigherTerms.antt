@@ -1,6 +1,7 @@
 -- The higher terms of a quartic of the time.
 use Rattle.book_model.specs.Interval.{Interval}
-use Rattle.book_model.specs.declared.moon_tables.TheConstants.{ELONGATION, LATITUDE_ARGUMENT, MOON_ANOMALY, MOON_LONGITUDE}
+use Rattle.book_model.specs.declared.moon_tables.TheConstants.{ELONGATION, LATITUDE_ARGUMENT, MOON_ANOMALY}
+use Rattle.book_model.specs.declared.moon_tables.TheConstants.{MOON_LONGITUDE}
 use Rattle.book_model.specs.declared.polynomial.Quartic.{Quartic}
 use Rattle.book_model.specs.numbers.Expressions.{Expression, World, add, scale, power}
 use Rattle.book_model.specs.numbers.Fractions.{fraction_of}

@@ -1,7 +1,8 @@
--- A minute that is found lies in an interval in which it becomes so. The run at depth 40 is taken apart: each halving keeps an
--- interval at whose beginning it isn't so and at whose end it is, twice as short as the one before, and what is so at depth 40 is so
--- at every greater one.
-use Rattle.std.proofs.Common.{◌≡◌, ℕ, zero, suc, ◌+◌, ◌-◌, ◌*◌, ◌/◌, ◌^◌, ◌<◌, ◌≤◌, refl, subst, ap, arith, Bool, true, false, not, if◌then◌else◌, ℤ, pos, negsuc, ◌≤ℤ◌, ◌*ℤ◌}
+-- A minute that is found lies in an interval in which it becomes so. The run at depth 40 is taken apart: each halving
+-- keeps an interval at whose beginning it isn't so and at whose end it is, twice as short as the one before, and what
+-- is so at depth 40 is so at every greater one.
+use Rattle.std.proofs.Common.{◌≡◌, ℕ, zero, suc, ◌+◌, ◌-◌, ◌*◌, ◌/◌, ◌^◌, ◌<◌, ◌≤◌, refl, subst, ap, arith, Bool, true}
+use Rattle.std.proofs.Common.{false, not, if◌then◌else◌, ℤ, pos, negsuc, ◌≤ℤ◌, ◌*ℤ◌}
 use Rattle.std.specs.Prelude.{◌&&◌}
 use Rattle.std.proofs.lemmas.Int.{ints}
 use Rattle.book_model.proofs.Intervals.{within_refl}
@@ -11,7 +12,8 @@ use Rattle.book_model.specs.programs.Programs.{Program, answer, run, outcome, va
 use Rattle.book_model.specs.sky.Facts.{at_depth}
 use Rattle.book_model.proofs.FactRuns.{parts}
 use Rattle.book_model.proofs.Nesting.{runs_nest}
-use Rattle.book_model.specs.programs.Crossings.{middle_of, halved_of, minutes_at, minute_in_of, crossing_from, crossing_of, opposite_of}
+use Rattle.book_model.specs.programs.Crossings.{middle_of, halved_of, minutes_at, minute_in_of, crossing_from}
+use Rattle.book_model.specs.programs.Crossings.{crossing_of, opposite_of}
 use Rattle.moon_rise.specs.Crossings.{ComesToAlways, HasCrossing}
 use Rattle.book_model.specs.sky.Moonrise.{moonrise_of, moonset_of, up_at_of}
 
@@ -21,7 +23,10 @@ Comes p a = outcome (run (at_depth 40) p) ≡ valued a
 
 -- a program that gives an answer at depth 40 does so at every depth from there on
 always : {A : Type 0} (p : Program A) (a : A) → Comes p a → ComesToAlways p a
-always p a e = record { at_each_depth = λ n deep. runs_nest.value_stays (at_depth n) (at_depth 40) (record { deeper = deep; inner = λ k. within_refl _ }) p a e }
+always p a e = record {
+  at_each_depth = λ n deep. runs_nest.value_stays (at_depth n) (at_depth 40)
+      (record { deeper = deep; inner = λ k. within_refl _ }) p a e;
+}
 
 answered_is : {A : Type 0} (a b : A) → Comes (answer a) b → a ≡ b
 unfolding run outcome
@@ -42,7 +47,8 @@ middle_is : (low half : ℕ) → middle_of low (low + 2 * half) ≡ low + half
 middle_is low half = omega arith
 
 -- halving
-halved : (more : ℕ) (holds : ℕ → Program Bool) (low high i : ℕ) → high ≡ low + 2 ^ more → Comes (halved_of more holds low high) i → IsIntervalOfDays holds low high
+halved : (more : ℕ) (holds : ℕ → Program Bool) (low high i : ℕ) → high ≡ low + 2 ^ more
+    → Comes (halved_of more holds low high) i → IsIntervalOfDays holds low high
     → IsHalved holds low high i
 unfolding halved_of
 halved zero holds low high i e h s =
@@ -52,14 +58,19 @@ halved zero holds low high i e h s =
     record { interval_of_days = rw is at t; above = omega (arith, is); below = omega (arith, is, one) }
 halved (suc more) holds low high i e h s =
     let p = parts (at_depth 40) (holds (middle_of low high)) _ i h in
-    let m : middle_of low high ≡ low + 2 ^ more = let d : 2 ^ suc more ≡ 2 * 2 ^ more = omega arith in rw (e, d) (middle_is low (2 ^ more)) in
-    let f : high ≡ middle_of low high + 2 ^ more = let d : 2 ^ suc more ≡ 2 * 2 ^ more = omega arith in omega (arith, e, d, m) in
-    by_test p.part (middle_of low high) m f p.first p.then (λ high' t. halved more holds low high' i t) (λ low' t. halved more holds low' high i t)
+    let m : middle_of low high ≡ low + 2 ^ more = let d : 2 ^ suc more ≡ 2 * 2 ^ more = omega arith in
+    rw (e, d) (middle_is low (2 ^ more)) in
+    let f : high ≡ middle_of low high + 2 ^ more = let d : 2 ^ suc more ≡ 2 * 2 ^ more = omega arith in
+    omega (arith, e, d, m) in
+    by_test p.part (middle_of low high) m f p.first p.then (λ high' t. halved more holds low high' i t)
+    (λ low' t. halved more holds low' high i t)
   where
     by_test : (now : Bool) (middle : ℕ) → middle ≡ low + 2 ^ more → high ≡ middle + 2 ^ more → Comes (holds middle) now
         → Comes (if now then halved_of more holds low middle else halved_of more holds middle high) i
-        → ((high' : ℕ) → high' ≡ low + 2 ^ more → Comes (halved_of more holds low high') i → IsIntervalOfDays holds low high' → IsHalved holds low high' i)
-        → ((low' : ℕ) → high ≡ low' + 2 ^ more → Comes (halved_of more holds low' high) i → IsIntervalOfDays holds low' high → IsHalved holds low' high i)
+        → ((high' : ℕ) → high' ≡ low + 2 ^ more → Comes (halved_of more holds low high') i
+        → IsIntervalOfDays holds low high' → IsHalved holds low high' i)
+        → ((low' : ℕ) → high ≡ low' + 2 ^ more → Comes (halved_of more holds low' high) i
+        → IsIntervalOfDays holds low' high → IsHalved holds low' high i)
         → IsHalved holds low high i
     by_test true middle m f a t first second =
         let r = first middle m t (record { before = s.before; after = a }) in
@@ -75,7 +86,8 @@ to_minute : (k i : ℕ) → 16 * k ≤ i → (pos 32 *ℤ minutes_at k i) ≤ℤ
 to_minute k i h = let q = (30 * (i - 16 * k) + 31) / 32 in omega (arith, ints, h)
 
 -- the minute in a quarter of an hour in which it becomes so
-minute_found : (holds : ℕ → Program Bool) (k : ℕ) (v : ℤ) → k < 96 → Comes (minute_in_of holds k) v → IsIntervalOfDays holds (16 * k) (16 * k + 16)
+minute_found : (holds : ℕ → Program Bool) (k : ℕ) (v : ℤ) → k < 96 → Comes (minute_in_of holds k) v
+    → IsIntervalOfDays holds (16 * k) (16 * k + 16)
     → HasCrossing holds false v
 unfolding minute_in_of
 minute_found holds k v d e s =
@@ -91,18 +103,22 @@ minute_found holds k v d e s =
       to = subst (λ z. (pos 32 *ℤ z) ≤ℤ pos (30 * suc p.part + 1)) is (to_minute k p.part h.above);
     }
 
-found_from : (more : ℕ) (holds : ℕ → Program Bool) (k : ℕ) (before : Bool) (v : ℤ) → k + more ≤ 96 → pos 0 ≤ℤ v → Comes (holds (16 * k)) before
+found_from : (more : ℕ) (holds : ℕ → Program Bool) (k : ℕ) (before : Bool) (v : ℤ) → k + more ≤ 96 → pos 0 ≤ℤ v
+    → Comes (holds (16 * k)) before
     → Comes (crossing_from more holds k before) v → HasCrossing holds false v
 unfolding crossing_from
-found_from zero holds k before v d m b e = let is : negsuc 0 ≡ v = answered_is _ v e in absurd (omega (arith, ints, m, is))
+found_from zero holds k before v d m b e = let is : negsuc 0 ≡ v = answered_is _ v e in
+    absurd (omega (arith, ints, m, is))
 found_from (suc more) holds k before v d m b e =
     let p = parts (at_depth 40) (holds (16 * k + 16)) _ v e in
     let next : 16 * suc k ≡ 16 * k + 16 = omega arith in
-    by_tests before p.part b p.first p.then (λ after a t. found_from more holds (suc k) after v (omega (arith, d)) m (rw next a) t)
+    by_tests before p.part b p.first p.then (λ after a t. found_from more holds (suc k) after v (omega (arith, d)) m
+    (rw next a) t)
   where
     by_tests : (before after : Bool) → Comes (holds (16 * k)) before → Comes (holds (16 * k + 16)) after
         → Comes (if not before && after then minute_in_of holds k else crossing_from more holds (suc k) after) v
-        → ((after : Bool) → Comes (holds (16 * k + 16)) after → Comes (crossing_from more holds (suc k) after) v → HasCrossing holds false v)
+        → ((after : Bool) → Comes (holds (16 * k + 16)) after → Comes (crossing_from more holds (suc k) after) v
+        → HasCrossing holds false v)
         → HasCrossing holds false v
     by_tests false true b a t rest = minute_found holds k v (omega (arith, d)) t (record { before = b; after = a })
     by_tests false false b a t rest = rest false a t
@@ -110,7 +126,8 @@ found_from (suc more) holds k before v d m b e =
     by_tests true false b a t rest = rest false a t
 
 -- a minute of the day that is the answer at depth 40 is one in which it becomes so
-pub crossing_found : (holds : ℕ → Program Bool) (v : ℤ) → pos 0 ≤ℤ v → ComesToAlways (crossing_of holds) v → HasCrossing holds false v
+pub crossing_found : (holds : ℕ → Program Bool) (v : ℤ) → pos 0 ≤ℤ v → ComesToAlways (crossing_of holds) v
+    → HasCrossing holds false v
 unfolding crossing_of
 crossing_found holds v m h =
     let e = h.at_each_depth 40 (omega arith) in
@@ -118,13 +135,15 @@ crossing_found holds v m h =
     found_from 96 holds 0 p.part v (omega arith) m p.first p.then
 
 -- ---- the moon
-pub rising_found : (place : Place) (location : Location) (day v : ℤ) → pos 0 ≤ℤ v → ComesToAlways (moonrise_of place location day) v
+pub rising_found : (place : Place) (location : Location) (day v : ℤ) → pos 0 ≤ℤ v
+    → ComesToAlways (moonrise_of place location day) v
     → HasCrossing (up_at_of place location day) false v
 unfolding moonrise_of
 rising_found place location day v m h = crossing_found (up_at_of place location day) v m h
 
 -- what gives an answer where its opposite gives another
-turned : (holds : ℕ → Program Bool) (i : ℕ) (so : Bool) → ComesToAlways (opposite_of holds i) so → ComesToAlways (holds i) (not so)
+turned : (holds : ℕ → Program Bool) (i : ℕ) (so : Bool) → ComesToAlways (opposite_of holds i) so
+    → ComesToAlways (holds i) (not so)
 unfolding opposite_of
 turned holds i so h =
     let p = parts (at_depth 40) (holds i) _ so (h.at_each_depth 40 (omega arith)) in
@@ -135,7 +154,8 @@ turned holds i so h =
     back true b e = ap not e
     back false b e = ap not e
 
-pub setting_found : (place : Place) (location : Location) (day v : ℤ) → pos 0 ≤ℤ v → ComesToAlways (moonset_of place location day) v
+pub setting_found : (place : Place) (location : Location) (day v : ℤ) → pos 0 ≤ℤ v
+    → ComesToAlways (moonset_of place location day) v
     → HasCrossing (up_at_of place location day) true v
 unfolding moonset_of
 setting_found place location day v m h =

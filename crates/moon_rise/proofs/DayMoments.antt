@@ -1,5 +1,8 @@
--- The hours of the zones are small fractions, so a moment of a day is the day's number itself or lies inside one day, and in one year.
-use Rattle.std.specs.Prelude.{◌≡◌, ℕ, suc, ◌+◌, ◌-◌, ◌*◌, ◌^◌, ◌<◌, ◌≤◌, Bool, true, false, cond, ◌&&◌, int_le, int_lt, nat_lt, nat_le, if◌then◌else◌, ℤ, pos, negsuc, neg_ℤ, ◌+ℤ◌, ◌-ℤ◌, ◌*ℤ◌, ◌≤ℤ◌, ◌<ℤ◌, unsigned_abs, FitsSigned, List, [], ◌∷◌, refl}
+-- The hours of the zones are small fractions, so a moment of a day is the day's number itself or lies inside one day,
+-- and in one year.
+use Rattle.std.specs.Prelude.{◌≡◌, ℕ, suc, ◌+◌, ◌-◌, ◌*◌, ◌^◌, ◌<◌, ◌≤◌, Bool, true, false, cond, ◌&&◌, int_le, int_lt}
+use Rattle.std.specs.Prelude.{nat_lt, nat_le, if◌then◌else◌, ℤ, pos, negsuc, neg_ℤ, ◌+ℤ◌, ◌-ℤ◌, ◌*ℤ◌, ◌≤ℤ◌, ◌<ℤ◌}
+use Rattle.std.specs.Prelude.{unsigned_abs, FitsSigned, List, [], ◌∷◌, refl}
 use Rattle.std.specs.Int.{w64}
 use Rattle.std.specs.List.{list_all}
 use Rattle.std.specs.Ordering.{int_eq}
@@ -18,7 +21,8 @@ use Rattle.book_model.specs.declared.fact.Place.{Place}
 use Rattle.book_model.specs.declared.fact.TheConstants.{PLACES}
 use Rattle.book_model.specs.declared.frac.Frac.{Frac}
 use Rattle.book_model.specs.declared.zone.ZoneStep.{ZoneStep}
-use Rattle.book_model.specs.numbers.Bounds.{Bound, unbounded, bounded, Reach, IsNarrow, range_size, floor_at_32, ceil_at_32, bound_of, integer_bound, constant_bound, sum_bound, limits_of}
+use Rattle.book_model.specs.numbers.Bounds.{Bound, unbounded, bounded, Reach, IsNarrow, range_size, floor_at_32}
+use Rattle.book_model.specs.numbers.Bounds.{ceil_at_32, bound_of, integer_bound, constant_bound, sum_bound, limits_of}
 use Rattle.book_model.specs.numbers.Expressions.{integer, constant, add}
 use Rattle.book_model.specs.numbers.Fractions.{fraction_of}
 use Rattle.book_model.specs.numbers.Relations.{Narrow, Keeps}
@@ -53,7 +57,8 @@ last_fine : list_all (λ row. is_fine row.2.2) PLACES ≡ true
 unfolding is_fine
 last_fine = refl
 
-fine_on : (steps : List ZoneStep) (last : Frac) (d : ℤ) → list_all is_fine_step steps ≡ true → is_fine last ≡ true → is_fine (hours_on steps last d) ≡ true
+fine_on : (steps : List ZoneStep) (last : Frac) (d : ℤ) → list_all is_fine_step steps ≡ true → is_fine last ≡ true
+    → is_fine (hours_on steps last d) ≡ true
 fine_on [] last d h k = k
 fine_on (step ∷ steps) last d h k =
     let b = both (is_fine_step step) (list_all is_fine_step steps) h in
@@ -68,9 +73,11 @@ zone_fine : (place : Place) (d : ℤ) → is_fine (zone_on place d) ≡ true
 unfolding zone_on zone_steps last_hours
 zone_fine place d =
     fine_on _ _ d
-    (column_passes (λ row. row.2.1.now) [] (λ row. place_number row.0) (list_all is_fine_step) PLACES (place_number place) (place_number place) steps_fine
+    (column_passes (λ row. row.2.1.now) [] (λ row. place_number row.0) (list_all is_fine_step) PLACES
+    (place_number place) (place_number place) steps_fine
     (place_row place))
-    (column_passes (λ row. row.2.2) no_fraction (λ row. place_number row.0) is_fine PLACES (place_number place) (place_number place) last_fine
+    (column_passes (λ row. row.2.2) no_fraction (λ row. place_number row.0) is_fine PLACES (place_number place)
+    (place_number place) last_fine
     (place_row place))
 
 fine_between : (h : Frac) → is_fine h ≡ true → (0 < h.den) × (h.den < 2 ^ 20)
@@ -106,7 +113,8 @@ year_fits n h k =
     omega (arith, ints, a, b)
 
 -- what lies inside one day lies in its year
-one_year : (i : Interval) (low high n : ℤ) (s k w : ℕ) → IsNarrow w (bounded low high s k) i → (n *ℤ pos (2 ^ 32)) ≤ℤ low
+one_year : (i : Interval) (low high n : ℤ) (s k w : ℕ) → IsNarrow w (bounded low high s k) i
+    → (n *ℤ pos (2 ^ 32)) ≤ℤ low
     → high <ℤ (n *ℤ pos (2 ^ 32) +ℤ pos (2 ^ 32)) → FitsSigned w64 (year_of_day n) → HasOneYear i
 unfolding IsNarrow cell_at cell_of
 one_year everything low high n s k w h l u f = absurd h
@@ -136,8 +144,12 @@ record IsBefore (f : Fraction) : Type 0 where
 
 before : (f : Fraction) → suc f.below ≤ 2 ^ 32 → neg_ℤ (pos (suc f.below)) ≤ℤ f.num → f.num ≤ℤ negsuc 0 → IsBefore f
 before f b l u =
-    let k = floor_mono (whole (pos 1)) (record { num = neg_ℤ (f.num *ℤ pos (2 ^ 32)); below = f.below }) (record { cross = omega (arith, ints, b, u) }) in
-    record { low = floor_least (f.num *ℤ pos (2 ^ 32)) f.below (2 ^ 32) (omega (arith, ints, l)); high = omega (arith, ints, k) }
+    let k = floor_mono (whole (pos 1)) (record { num = neg_ℤ (f.num *ℤ pos (2 ^ 32)); below = f.below })
+    (record { cross = omega (arith, ints, b, u) }) in
+    record {
+      low = floor_least (f.num *ℤ pos (2 ^ 32)) f.below (2 ^ 32) (omega (arith, ints, l));
+      high = omega (arith, ints, k);
+    }
 
 -- from 0 up to 1
 record IsAfter (f : Fraction) : Type 0 where
@@ -158,7 +170,8 @@ record IsNext (f : Fraction) : Type 0 where
 
 next : (f : Fraction) → f.num ≡ pos (suc f.below) → IsNext f
 next f e =
-    let k = floor_mono (whole (pos (2 ^ 32))) (record { num = f.num *ℤ pos (2 ^ 32); below = f.below }) (record { cross = omega (arith, ints, e) }) in
+    let k = floor_mono (whole (pos (2 ^ 32))) (record { num = f.num *ℤ pos (2 ^ 32); below = f.below })
+    (record { cross = omega (arith, ints, e) }) in
     record {
       low = omega (arith, ints, k);
       high = ceil_most (f.num *ℤ pos (2 ^ 32)) f.below (2 ^ 32) (omega (arith, ints, e));
@@ -170,22 +183,28 @@ small_at true n h = lt-ltb _ _ h
 small_at false n h = lt-ltb _ _ (omega (arith, h))
 
 -- the bounds of a day's number and of a fraction within 1 of 0, added
-moment_bound : (bits : ℕ) (b : ℕ → Bound) (d : ℤ) (f : Fraction) → 36 ≤ bits → bits ≤ 56 → IsValueDay d → unsigned_abs f.num < 2 ^ 40
-    → neg_ℤ (pos (2 ^ 32)) ≤ℤ floor_at_32 f → floor_at_32 f ≤ℤ pos (2 ^ 32) → neg_ℤ (pos (2 ^ 32)) ≤ℤ ceil_at_32 f → ceil_at_32 f ≤ℤ pos (2 ^ 32)
+moment_bound : (bits : ℕ) (b : ℕ → Bound) (d : ℤ) (f : Fraction) → 36 ≤ bits → bits ≤ 56 → IsValueDay d
+    → unsigned_abs f.num < 2 ^ 40
+    → neg_ℤ (pos (2 ^ 32)) ≤ℤ floor_at_32 f → floor_at_32 f ≤ℤ pos (2 ^ 32) → neg_ℤ (pos (2 ^ 32)) ≤ℤ ceil_at_32 f
+    → ceil_at_32 f ≤ℤ pos (2 ^ 32)
     → bound_of (limits_of bits) b (add (integer d) (constant f))
     ≡ bounded (d *ℤ pos (2 ^ 32) +ℤ floor_at_32 f) (d *ℤ pos (2 ^ 32) +ℤ ceil_at_32 f) 0 (0 + 2 ^ (64 - bits))
 unfolding bound_of integer_bound constant_bound sum_bound
 moment_bound bits b d f low high day small l1 l2 u1 u2 =
     let p : 2 ^ 70 ≤ 2 ^ (126 - bits) = pow_mono {i = 70} {j = 126 - bits} (omega (arith, high)) in
-    let s1 : nat_lt (unsigned_abs d * 2 ^ 32) (cond (nat_le bits 36) (2 ^ 58) (2 ^ 100)) ≡ true = small_at (nat_le bits 36) _
+    let s1 : nat_lt (unsigned_abs d * 2 ^ 32) (cond (nat_le bits 36) (2 ^ 58) (2 ^ 100)) ≡ true =
+    small_at (nat_le bits 36) _
     (omega (arith, ints, day.0, day.1)) in
     let s2 : nat_lt (unsigned_abs f.num) (2 ^ (126 - bits)) ≡ true = lt-ltb _ _ (omega (arith, p, small)) in
     let near_0 = size_least (floor_at_32 f) (ceil_at_32 f) (2 ^ 32) l1 l2 u1 u2 in
-    let s3 : nat_lt (range_size (floor_at_32 f) (ceil_at_32 f)) (cond (nat_le bits 36) (2 ^ 58) (2 ^ 100)) ≡ true = small_at (nat_le bits 36) _
+    let s3 : nat_lt (range_size (floor_at_32 f) (ceil_at_32 f)) (cond (nat_le bits 36) (2 ^ 58) (2 ^ 100)) ≡ true =
+    small_at (nat_le bits 36) _
     (omega (arith, near_0)) in
-    let near_d = size_least (d *ℤ pos (2 ^ 32) +ℤ floor_at_32 f) (d *ℤ pos (2 ^ 32) +ℤ ceil_at_32 f) (800000 * 2 ^ 32) (omega (arith, ints, day.0, l1))
+    let near_d = size_least (d *ℤ pos (2 ^ 32) +ℤ floor_at_32 f) (d *ℤ pos (2 ^ 32) +ℤ ceil_at_32 f) (800000 * 2 ^ 32)
+    (omega (arith, ints, day.0, l1))
     (omega (arith, ints, day.1, l2)) (omega (arith, ints, day.0, u1)) (omega (arith, ints, day.1, u2)) in
-    let s4 : nat_lt (range_size (d *ℤ pos (2 ^ 32) +ℤ floor_at_32 f) (d *ℤ pos (2 ^ 32) +ℤ ceil_at_32 f)) (cond (nat_le bits 36) (2 ^ 58) (2 ^ 100)) ≡ true =
+    let s4 : nat_lt (range_size (d *ℤ pos (2 ^ 32) +ℤ floor_at_32 f) (d *ℤ pos (2 ^ 32) +ℤ ceil_at_32 f))
+    (cond (nat_le bits 36) (2 ^ 58) (2 ^ 100)) ≡ true =
     small_at (nat_le bits 36) _ (omega (arith, near_d)) in
     rw (limits_within bits low high, s1, s2, s3, s4) refl
 
@@ -208,38 +227,46 @@ near f l u =
       ceil_high = ceil_most z f.below (2 ^ 32) b;
     }
 
-module _ {E : Type 0} (shown : E → Interval) (bits : ℕ) (e : E) (d : ℤ) (low : 36 ≤ bits) (high : bits ≤ 56) (day : IsValueDay d) (f : Fraction)
+module _ {E : Type 0} (shown : E → Interval) (bits : ℕ) (e : E) (d : ℤ) (low : 36 ≤ bits) (high : bits ≤ 56)
+    (day : IsValueDay d) (f : Fraction)
     (small : suc f.below < 2 ^ 32) (from : neg_ℤ (pos (suc f.below)) ≤ℤ f.num) (to : f.num ≤ℤ pos (suc f.below))
-    (y : Narrow shown (limits_of bits) (record { width = 0; bounds = λ k. unbounded }) (add (integer d) (constant f)) e) where
-  -- what its bounds are
-  kept : IsNarrow 0 (bounded (d *ℤ pos (2 ^ 32) +ℤ floor_at_32 f) (d *ℤ pos (2 ^ 32) +ℤ ceil_at_32 f) 0 (0 + 2 ^ (64 - bits))) (shown e)
-  unfolding Keeps
-  kept =
-      let n = near f from to in
-      let z = moment_bound bits (λ k. unbounded) d f low high day (omega (arith, ints, small, from, to)) n.floor_low n.floor_high n.ceil_low n.ceil_high in
-      rw z at y.kept
+    (y : Narrow shown (limits_of bits) (record { width = 0; bounds = λ k. unbounded }) (add (integer d) (constant f)) e)
+  where
+    -- what its bounds are
+    kept : IsNarrow 0 (bounded (d *ℤ pos (2 ^ 32) +ℤ floor_at_32 f) (d *ℤ pos (2 ^ 32) +ℤ ceil_at_32 f) 0
+        (0 + 2 ^ (64 - bits))) (shown e)
+    unfolding Keeps
+    kept =
+        let n = near f from to in
+        let z = moment_bound bits (λ k. unbounded) d f low high day (omega (arith, ints, small, from, to)) n.floor_low
+        n.floor_high n.ceil_low n.ceil_high in
+        rw z at y.kept
 
-  -- the year by where it lies
-  in_one_year : HasOneYear (shown e)
-  in_one_year =
-      by_lt_z f.num (pos 0)
-      (λ n.
-      let r = before f (omega (arith, small)) from (omega (arith, ints, n)) in
-      one_year (shown e) _ _ (d -ℤ pos 1) 0 (0 + 2 ^ (64 - bits)) 0 kept (omega (arith, ints, r.low)) (omega (arith, ints, r.high))
-      (year_fits (d -ℤ pos 1) (omega (arith, ints, day.0)) (omega (arith, ints, day.1))))
-      (λ n.
-      by_lt_z f.num (pos (suc f.below))
-      (λ m.
-      let r = after f (omega (arith, small)) (omega (arith, ints, n)) (omega (arith, ints, m)) in
-      one_year (shown e) _ _ d 0 (0 + 2 ^ (64 - bits)) 0 kept (omega (arith, ints, r.low)) (omega (arith, ints, r.high))
-      (year_fits d (omega (arith, ints, day.0)) (omega (arith, ints, day.1))))
-      (λ m.
-      let r = next f (omega (arith, ints, m, to)) in
-      one_year (shown e) _ _ (d +ℤ pos 1) 0 (0 + 2 ^ (64 - bits)) 0 kept (omega (arith, ints, r.low)) (omega (arith, ints, r.high))
-      (year_fits (d +ℤ pos 1) (omega (arith, ints, day.0)) (omega (arith, ints, day.1)))))
+    -- the year by where it lies
+    in_one_year : HasOneYear (shown e)
+    in_one_year =
+        by_lt_z f.num (pos 0)
+        (λ n.
+        let r = before f (omega (arith, small)) from (omega (arith, ints, n)) in
+        one_year (shown e) _ _ (d -ℤ pos 1) 0 (0 + 2 ^ (64 - bits)) 0 kept (omega (arith, ints, r.low))
+        (omega (arith, ints, r.high))
+        (year_fits (d -ℤ pos 1) (omega (arith, ints, day.0)) (omega (arith, ints, day.1))))
+        (λ n.
+        by_lt_z f.num (pos (suc f.below))
+        (λ m.
+        let r = after f (omega (arith, small)) (omega (arith, ints, n)) (omega (arith, ints, m)) in
+        one_year (shown e) _ _ d 0 (0 + 2 ^ (64 - bits)) 0 kept (omega (arith, ints, r.low))
+        (omega (arith, ints, r.high))
+        (year_fits d (omega (arith, ints, day.0)) (omega (arith, ints, day.1))))
+        (λ m.
+        let r = next f (omega (arith, ints, m, to)) in
+        one_year (shown e) _ _ (d +ℤ pos 1) 0 (0 + 2 ^ (64 - bits)) 0 kept (omega (arith, ints, r.low))
+        (omega (arith, ints, r.high))
+        (year_fits (d +ℤ pos 1) (omega (arith, ints, day.0)) (omega (arith, ints, day.1)))))
 
 -- the moment of a number of a day lies in one year
-pub moment_in_year : {E : Type 0} (shown : E → Interval) (bits : ℕ) (z : Frac) (d : ℤ) (i : ℕ) (e : E) → 36 ≤ bits → bits ≤ 56 → IsValueDay d → i ≤ 1536
+pub moment_in_year : {E : Type 0} (shown : E → Interval) (bits : ℕ) (z : Frac) (d : ℤ) (i : ℕ) (e : E) → 36 ≤ bits
+    → bits ≤ 56 → IsValueDay d → i ≤ 1536
     → AreHours z → ((r : Reach) → Narrow shown (limits_of bits) r (computed_moment_of z d i) e) → HasOneYear (shown e)
 unfolding computed_moment_of
 moment_in_year shown bits z d i e low high day b h y =
@@ -251,7 +278,8 @@ moment_in_year shown bits z d i e low high day b h y =
     in_one_year shown bits e d low high day (shift_of z i) (omega (arith, s, h.fine)) from to (y _)
 
 -- and is a unit wide at most
-pub moment_exact : {E : Type 0} (shown : E → Interval) (bits : ℕ) (z : Frac) (d : ℤ) (i : ℕ) (e : E) → bits ≡ 56 → IsValueDay d → i ≤ 1536 → AreHours z
+pub moment_exact : {E : Type 0} (shown : E → Interval) (bits : ℕ) (z : Frac) (d : ℤ) (i : ℕ) (e : E) → bits ≡ 56
+    → IsValueDay d → i ≤ 1536 → AreHours z
     → ((r : Reach) → Narrow shown (limits_of bits) r (computed_moment_of z d i) e) → IsExact (shown e)
 unfolding computed_moment_of
 moment_exact shown bits z d i e is day b h y =
@@ -261,6 +289,8 @@ moment_exact shown bits z d i e is day b h y =
     let from : neg_ℤ (pos (suc (1536 * z.den - 1))) ≤ℤ (shift_of z i).num = omega (arith, ints, s, l) in
     let to : (shift_of z i).num ≤ℤ pos (suc (1536 * z.den - 1)) = omega (arith, ints, s, u) in
     let n = near (shift_of z i) from to in
-    let k = rw is at (kept shown bits e d (omega (arith, is)) (omega (arith, is)) day (shift_of z i) (omega (arith, s, h.fine)) from to (y _)) in
-    looser _ _ _ _ (2 ^ 8) (2 ^ 16) (shown e) (omega (arith, ints, day.0, n.floor_low)) (omega (arith, ints, day.1, n.ceil_high)) (omega arith)
+    let k = rw is at (kept shown bits e d (omega (arith, is)) (omega (arith, is)) day (shift_of z i)
+    (omega (arith, s, h.fine)) from to (y _)) in
+    looser _ _ _ _ (2 ^ 8) (2 ^ 16) (shown e) (omega (arith, ints, day.0, n.floor_low))
+    (omega (arith, ints, day.1, n.ceil_high)) (omega arith)
     (record { kept = k })

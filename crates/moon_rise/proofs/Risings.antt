@@ -1,6 +1,7 @@
--- What is known of the tests of a walk over the moments of a day: no test of a year is ever undecided, and the locations of the
--- places are such that every undecided test is close; and how many tests there are.
-use Rattle.std.specs.Prelude.{◌≡◌, ℕ, zero, suc, ◌+◌, ◌*◌, ◌^◌, ◌&&◌, not, if◌then◌else◌, Bool, true, false, ℤ, Option, Some, None, Result, Ok, Err, IfErr, IfSome}
+-- What is known of the tests of a walk over the moments of a day: no test of a year is ever undecided, and the
+-- locations of the places are such that every undecided test is close; and how many tests there are.
+use Rattle.std.specs.Prelude.{◌≡◌, ℕ, zero, suc, ◌+◌, ◌*◌, ◌^◌, ◌&&◌, not, if◌then◌else◌, Bool, true, false, ℤ, Option}
+use Rattle.std.specs.Prelude.{Some, None, Result, Ok, Err, IfErr, IfSome}
 use Rattle.std.proofs.Common.{arith}
 use Rattle.book_model.specs.Interval.{Interval, IsProper}
 use Rattle.book_model.specs.declared.fact.Place.{Place}
@@ -36,7 +37,8 @@ use Rattle.moon_rise.specs.Widths.{IsExact, IsDatedExact, IsSkyLocation}
 use Rattle.moon_rise.proofs.Heights.{place_is_sky}
 
 -- a failure at an undecided year is none where the enclosure lies in one year
-pub never_of_year : {T : Type 0} (i : Interval) (r : Result T Fail) → HasOneYear i → IfErr r (IsYearUndecidedFor i) → IfErr r IsNotOfYear
+pub never_of_year : {T : Type 0} (i : Interval) (r : Result T Fail) → HasOneYear i → IfErr r (IsYearUndecidedFor i)
+    → IfErr r IsNotOfYear
 never_of_year i (Ok v) y h = tt
 never_of_year i (Err f) y h = closed_year i y.year f y.within y.fits h
 
@@ -54,18 +56,21 @@ pub dated_exact : (i : Interval) → IsInTable i → IsExact i → IsDatedExact 
 dated_exact i t h = drawn TABLE_START TABLE_END _ _ (2 ^ 16) i t h
 
 -- ---- what makes no test never fails
-pub sidereal_answers : {E : Type 0} (shown : E → Interval) (p : (e : E) → IsProper (shown e)) (t : E) (f : Fail) {b a : ℕ}
+pub sidereal_answers : {E : Type 0} (shown : E → Interval) (p : (e : E) → IsProper (shown e)) (t : E) (f : Fail)
+    {b a : ℕ}
     → ((w : World) (x : Expression) → Within shown w x t → Leads w (Within shown w) (sidereal_of x) b a (Err f)) → ⊥
 unfolding sidereal_of run
 sidereal_answers shown p t f h = no_failure (h _ _ (within_world shown p t)).reports
 
-pub sidereal_never : {E : Type 0} (shown : E → Interval) (p : (e : E) → IsProper (shown e)) (t : E) (P : Fail → Type 0) (r : Result E Fail) {b a : ℕ}
+pub sidereal_never : {E : Type 0} (shown : E → Interval) (p : (e : E) → IsProper (shown e)) (t : E) (P : Fail → Type 0)
+    (r : Result E Fail) {b a : ℕ}
     → ((w : World) (x : Expression) → Within shown w x t → Leads w (Within shown w) (sidereal_of x) b a r) → IfErr r P
 sidereal_never shown p t P (Ok v) h = tt
 sidereal_never shown p t P (Err f) h = absurd (sidereal_answers shown p t f h)
 
 -- a comparison with 0 that is undecided is no test of a year
-pub rise_elsewhere : {T : Type 0} (i j k : Interval) (r : Result T Fail) → IfErr r (IsUndecidedLess i j Rise) → IfErr r (IsYearUndecidedFor k)
+pub rise_elsewhere : {T : Type 0} (i j k : Interval) (r : Result T Fail) → IfErr r (IsUndecidedLess i j Rise)
+    → IfErr r (IsYearUndecidedFor k)
 rise_elsewhere i j k (Ok v) h = tt
 rise_elsewhere i j k (Err (undecided_at u)) h = λ e. let s = h.1 in absurd (cc)
 rise_elsewhere i j k (Err (Void s)) h = absurd h
@@ -96,7 +101,8 @@ module _ (holds : ℕ → Program Bool) (few : (i : ℕ) → AtMost 6 (holds i))
   halved_few zero low high = answer_at_most
   halved_few (suc more) low high =
       at_most_more (6 + 6 * more) (6 * suc more) (omega arith)
-      (at_most_bind 6 (6 * more) (few _) (λ now. either (6 * more) now _ _ (halved_few more low _) (halved_few more _ high)))
+      (at_most_bind 6 (6 * more) (few _) (λ now. either (6 * more) now _ _ (halved_few more low _)
+      (halved_few more _ high)))
 
   minute_few : (k : ℕ) → AtMost 24 (minute_in_of holds k)
   unfolding minute_in_of
@@ -120,4 +126,5 @@ moonrise_few place p d = crossing_few (up_at_of place p d) (λ i. up_few p _)
 
 pub moonset_few : (place : Place) (p : Location) (d : ℤ) → AtMost 606 (moonset_of place p d)
 unfolding moonset_of opposite_of up_at_of
-moonset_few place p d = crossing_few (opposite_of (up_at_of place p d)) (λ i. at_most_bind 6 0 (up_few p _) (λ up. answer_at_most))
+moonset_few place p d = crossing_few (opposite_of (up_at_of place p d))
+    (λ i. at_most_bind 6 0 (up_few p _) (λ up. answer_at_most))

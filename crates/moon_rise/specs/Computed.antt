@@ -4,7 +4,8 @@ use Rattle.std.specs.Prelude.{ℕ, ℤ, pos, ◌-ℤ◌, ◌*ℤ◌, ◌*◌, �
 use Rattle.book_model.specs.Fraction.{Fraction}
 use Rattle.book_model.specs.declared.frac.Frac.{Frac}
 use Rattle.book_model.specs.declared.moon_tables.TheConstants.{MEAN_DISTANCE}
-use Rattle.book_model.specs.numbers.Expressions.{Expression, integer, constant, add, subtract, divide, scale, cosine, arcsine}
+use Rattle.book_model.specs.numbers.Expressions.{Expression, integer, constant, add, subtract, divide, scale, cosine}
+use Rattle.book_model.specs.numbers.Expressions.{arcsine}
 
 -- the mean distance, in kilometres
 abbrev pub mean_kilometres : Fraction

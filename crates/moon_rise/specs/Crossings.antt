@@ -8,8 +8,8 @@ use Rattle.book_model.specs.sky.Facts.{at_depth}
 pub record ComesToAlways {A : Type 0} (p : Program A) (a : A) : Type 0 where
   pub at_each_depth : (n : ℕ) → DEPTH ≤ n → outcome (run (at_depth n) p) ≡ valued a
 
--- At the two bounds of an interval of 15/16 minute it isn't so and is so, or is so and isn't. The minute lies in the interval, or
--- no more than 1/32 minute after it; 32 of these intervals are 30 minutes.
+-- At the two bounds of an interval of 15/16 minute it isn't so and is so, or is so and isn't. The minute lies in the
+-- interval, or no more than 1/32 minute after it; 32 of these intervals are 30 minutes.
 pub record HasCrossing (holds : ℕ → Program Bool) (before : Bool) (minute : ℤ) : Type 0 where
   pub moment : ℕ
   pub of_day : moment < 1536

@@ -41,15 +41,15 @@ IsMoonDistance i = IsDistance (2 ^ 16) i
 abbrev pub IsSkySine : Interval → Type 0
 IsSkySine i = IsAbout (2 ^ 34) (2 ^ 34) i
 
--- An altitude by such a sine. Of one within 9/16 of 0 it is at most 5/4 of 2^-24 degrees wide. Near the zenith or the nadir, where an
--- arcsine is steep, it may be wide, but it lies at least 6 degrees above or below the horizon.
+-- An altitude by such a sine. Of one within 9/16 of 0 it is at most 5/4 of 2^-24 degrees wide. Near the zenith or the
+-- nadir, where an arcsine is steep, it may be wide, but it lies at least 6 degrees above or below the horizon.
 pub data IsAltitude : Interval → Type 0 where
   level : {i : Interval} → IsAbout (36 * 2 ^ 32) (5 * 2 ^ 38) i → IsAltitude i
   above : {i : Interval} → IsWithin (pos (6 * 2 ^ 32)) (pos (91 * 2 ^ 32)) (2 ^ 71) i → IsAltitude i
   below : {i : Interval} → IsWithin (neg_ℤ (pos (91 * 2 ^ 32))) (neg_ℤ (pos (6 * 2 ^ 32))) (2 ^ 71) i → IsAltitude i
 
--- An observed altitude: near the horizon it is at most 2^-23 degrees wide; elsewhere it lies at least 4 degrees above 0 or a fourth of
--- one below.
+-- An observed altitude: near the horizon it is at most 2^-23 degrees wide; elsewhere it lies at least 4 degrees above 0
+-- or a fourth of one below.
 pub data IsHeight : Interval → Type 0 where
   near : {i : Interval} → IsAbout (41 * 2 ^ 32) (2 ^ 41) i → IsHeight i
   high : {i : Interval} → IsWithin (pos (4 * 2 ^ 32)) (pos (100 * 2 ^ 32)) (2 ^ 72) i → IsHeight i
@@ -66,7 +66,8 @@ sky_bounds k =
 
 -- the sine of the altitude at a location is narrow, where these are
 abbrev pub is_sky_location : Location → Bool
-is_sky_location p = implies (bound_of (limits_at 56) sky_bounds (sky_sine_of p (argument 0) (argument 1) (argument 2) (argument 3)))
+is_sky_location p =
+    implies (bound_of (limits_at 56) sky_bounds (sky_sine_of p (argument 0) (argument 1) (argument 2) (argument 3)))
     (bounded (neg_ℤ (pos (2 ^ 34))) (pos (2 ^ 34)) 0 (2 ^ 34))
 
 -- a location at which the sky is measured so: its refraction is narrow, and the sine of an altitude

@@ -1,6 +1,7 @@
 -- How wide a new moon is at the scale 2^-56: its parts by the sizes of their coefficients, which hold at each time
 -- within 25.1 centuries; and that one within 4 centuries is recent.
-use Rattle.std.specs.Prelude.{◌≡◌, ℕ, suc, ◌+◌, ◌*◌, ◌/◌, ◌^◌, ◌≤◌, ◌<◌, true, nat_lt, unsigned_abs, ℤ, pos, neg_ℤ, ◌≤ℤ◌, List, refl, if◌then◌else◌, ◌==◌, Result, Ok, Err, ◌+ℤ◌, ◌*ℤ◌}
+use Rattle.std.specs.Prelude.{◌≡◌, ℕ, suc, ◌+◌, ◌*◌, ◌/◌, ◌^◌, ◌≤◌, ◌<◌, true, nat_lt, unsigned_abs, ℤ, pos, neg_ℤ}
+use Rattle.std.specs.Prelude.{◌≤ℤ◌, List, refl, if◌then◌else◌, ◌==◌, Result, Ok, Err, ◌+ℤ◌, ◌*ℤ◌}
 use Rattle.std.proofs.Common.{arith}
 use Rattle.std.proofs.lemmas.Bool.{lt-ltb}
 use Rattle.std.proofs.lemmas.Int.{ints}
@@ -9,21 +10,30 @@ use Rattle.book_model.specs.Interval.{Interval}
 use Rattle.book_model.specs.declared.fail.Fail.{Fail}
 use Rattle.book_model.specs.declared.frac.Frac.{Frac}
 use Rattle.book_model.specs.declared.moon_tables.TheConstants.{ECCENTRICITY_FACTOR}
-use Rattle.book_model.specs.declared.new_moon_tables.TheConstants.{MEAN_NEW_MOON, NEW_MOON_ANOMALY, NEW_MOON_LATITUDE_ARGUMENT, NEW_MOON_NODE, NEW_MOON_SUN_ANOMALY, NEW_MOON_TERM, NODE_TERM, RECENT_DAYS}
+use Rattle.book_model.specs.declared.new_moon_tables.TheConstants.{MEAN_NEW_MOON, NEW_MOON_ANOMALY}
+use Rattle.book_model.specs.declared.new_moon_tables.TheConstants.{NEW_MOON_LATITUDE_ARGUMENT, NEW_MOON_NODE}
+use Rattle.book_model.specs.declared.new_moon_tables.TheConstants.{NEW_MOON_SUN_ANOMALY, NEW_MOON_TERM, NODE_TERM}
+use Rattle.book_model.specs.declared.new_moon_tables.TheConstants.{RECENT_DAYS}
 use Rattle.book_model.specs.declared.time_tables.TheConstants.{NOON_2000, RECENT_START}
-use Rattle.book_model.specs.numbers.Bounds.{Bound, unbounded, bounded, Reach, bound_of, ceil_at_32, floor_at_32, implies, limits_at, limits_of, integer_bound, constant_bound, range_size, sum_bound, scaled_bound, product_bound, power_bound, spanned_bound, sine_spans}
-use Rattle.book_model.specs.numbers.Expressions.{Expression, argument, constant, integer, add, multiply, power, scale, sine}
+use Rattle.book_model.specs.numbers.Bounds.{Bound, unbounded, bounded, Reach, bound_of, ceil_at_32, floor_at_32}
+use Rattle.book_model.specs.numbers.Bounds.{implies, limits_at, limits_of, integer_bound, constant_bound, range_size}
+use Rattle.book_model.specs.numbers.Bounds.{sum_bound, scaled_bound, product_bound, power_bound, spanned_bound}
+use Rattle.book_model.specs.numbers.Bounds.{sine_spans}
+use Rattle.book_model.specs.numbers.Expressions.{Expression, argument, constant, integer, add, multiply, power, scale}
+use Rattle.book_model.specs.numbers.Expressions.{sine}
 use Rattle.book_model.specs.numbers.Fractions.{fraction_of}
 use Rattle.book_model.specs.numbers.Polynomials.{quadratic_of, quadratic_term_of}
 use Rattle.book_model.specs.numbers.Relations.{Narrow, Keeps}
 use Rattle.book_model.specs.programs.Widths.{IsWithin, IsAbout, IsMoment, Measures, recent_from, IsSince}
 use Rattle.book_model.specs.sky.NewMoons.{millionths, centuries_of_months}
 use Rattle.book_model.proofs.Implying.{limits_within}
-use Rattle.encl_core.proofs.Covering.{IsCovered, ceil_least, ceil_most, covered, floor_least, floor_most, size_least, within_covered}
+use Rattle.encl_core.proofs.Covering.{IsCovered, ceil_least, ceil_most, covered, floor_least, floor_most, size_least}
+use Rattle.encl_core.proofs.Covering.{within_covered}
 use Rattle.encl_core.proofs.Measuring.{measured, sloped, looser}
 use Rattle.periodic_terms.specs.Widths.{AreClose, IsUsualEccentricity}
 use Rattle.new_moons.specs.Months.{cubic_sum, quartic_sum}
-use Rattle.new_moons.specs.Widths.{AreNearAngles, ArePowers, IsNearMonth, IsNearTime, IsRecentMean, IsRecentMonth, near_size, recent_mean_from, recent_mean_to}
+use Rattle.new_moons.specs.Widths.{AreNearAngles, ArePowers, IsNearMonth, IsNearTime, IsRecentMean, IsRecentMonth}
+use Rattle.new_moons.specs.Widths.{near_size, recent_mean_from, recent_mean_to}
 use Rattle.periodic_terms.specs.declared.mean.MeanAngles.{MeanAngles}
 use Rattle.new_moons.specs.declared.angles.Angles.{Angles}
 use Rattle.new_moons.specs.declared.months.Powers.{Powers}

@@ -10,7 +10,9 @@ use Rattle.book_model.proofs.Intervals.{power_holds, sum_within, within_trans, w
 use Rattle.book_model.proofs.Ring.{at, lit, ◌⊕◌, ◌⊗◌}
 use Rattle.book_model.proofs.Same.{same_trans, same_refl, plus_cong, le_of_same, ge_of_same}
 use Rattle.book_model.specs.declared.frac.Frac.{Frac}
-use Rattle.book_model.specs.declared.new_moon_tables.TheConstants.{MEAN_NEW_MOON, NEW_MOON_ANOMALY, NEW_MOON_LATITUDE_ARGUMENT, NEW_MOON_NODE, NEW_MOON_SUN_ANOMALY}
+use Rattle.book_model.specs.declared.new_moon_tables.TheConstants.{MEAN_NEW_MOON, NEW_MOON_ANOMALY}
+use Rattle.book_model.specs.declared.new_moon_tables.TheConstants.{NEW_MOON_LATITUDE_ARGUMENT, NEW_MOON_NODE}
+use Rattle.book_model.specs.declared.new_moon_tables.TheConstants.{NEW_MOON_SUN_ANOMALY}
 use Rattle.book_model.specs.numbers.Expressions.{World, value, exactly, constant, multiply, scale, power as power_of}
 use Rattle.book_model.specs.numbers.Fractions.{fraction_of}
 use Rattle.book_model.specs.numbers.Polynomials.{polynomial_at_to, polynomial_at}

@@ -4,10 +4,12 @@
 use Rattle.std.proofs.Common.{◌≡◌, ℕ, zero, suc, refl, arith, ℤ, pos, ◌+ℤ◌, ◌*ℤ◌, List, [], ◌∷◌, slice_index_or}
 use Rattle.std.proofs.lemmas.Int.{ints}
 use Rattle.book_model.specs.Fraction.{Fraction, ◌≈◌, ◌≤F◌, whole, plus, times}
-use Rattle.book_model.specs.Interval.{Interval, everything, between, zero_fraction, IsProper, IsMember, ◌⊆◌, sum, product, least, greatest}
+use Rattle.book_model.specs.Interval.{Interval, everything, between, zero_fraction, IsProper, IsMember, ◌⊆◌, sum}
+use Rattle.book_model.specs.Interval.{product, least, greatest}
 use Rattle.book_model.proofs.FractionRing.{same_by}
 use Rattle.book_model.proofs.Fractions.{le_refl, le_trans, plus_mono, times_mono}
-use Rattle.book_model.proofs.Intervals.{within_trans, within_refl, within_everything, product_within, product_holds, sum_within, least_is, greatest_is, least_below, greatest_above}
+use Rattle.book_model.proofs.Intervals.{within_trans, within_refl, within_everything, product_within, product_holds}
+use Rattle.book_model.proofs.Intervals.{sum_within, least_is, greatest_is, least_below, greatest_above}
 use Rattle.book_model.proofs.Ring.{at, lit, ◌⊕◌, ◌⊗◌, ring}
 use Rattle.book_model.proofs.Same.{same_trans, same_refl, times_cong, plus_times, le_of_same, ge_of_same}
 use Rattle.book_model.specs.declared.polynomial.PeriodicTerm.{PeriodicTerm}
@@ -27,7 +29,8 @@ use Rattle.periodic_terms.proofs.TableMatches.{tables_match}
 use Rattle.new_moons.specs.declared.planets.TheConstants.{PLANET_TURNS, PLANET_SLOPE, PLANET_SIZES}
 use Rattle.new_moons.proofs.MonthPolynomials.{exactly_within}
 
--- ---- a planet's term as a periodic term by months: 10^-2 degrees are 10^5 of 10^-7, and 10^-6 degrees a month are 365250 of
+-- ---- a planet's term as a periodic term by months: 10^-2 degrees are 10^5 of 10^-7, and 10^-6 degrees a month are
+-- 365250 of
 -- 10^-7 degrees for 36525
 abbrev term_of_planet : PlanetTerm → PeriodicTerm
 term_of_planet t = record { size = t.size; phase = pos 100000 *ℤ t.phase; rate = pos 365250 *ℤ t.rate }
@@ -128,7 +131,8 @@ scaled_sum : (i j : Interval) (f : Fraction) → zero_fraction ≤F f → IsProp
 unfolding sum product
 scaled_sum everything j f z p q = within_everything _
 scaled_sum (between a b) everything f z p q = within_everything _
-scaled_sum (between a b) (between c d) f z p q = record { endpoints = (low_sum a b c d f z p q, high_sum a b c d f z p q) }
+scaled_sum (between a b) (between c d) f z p q =
+    record { endpoints = (low_sum a b c d f z p q, high_sum a b c d f z p q) }
 
 -- ---- a term
 -- its angle is that of the periodic term at the number
@@ -183,10 +187,12 @@ millionth_positive = record { cross = omega (arith, ints) }
 
 sums_within : (w : World) (k : ℤ) (ts : List PlanetTerm) (n : ℕ)
     → value w (terms_to (planet_term_of k) no_planet_term ts n)
-    ⊆ value w (scale (millionths (pos 1)) (terms_to (turning_term_of (integer k)) no_periodic_term (planet_periodic_terms ts) n))
+    ⊆ value w (scale (millionths (pos 1)) (terms_to (turning_term_of (integer k)) no_periodic_term
+    (planet_periodic_terms ts) n))
 unfolding value terms_to
 sums_within w k ts zero =
-    rw (product_exactly (whole (pos 0)) (millionths (pos 1))) (record { endpoints = (le_of_same no_sum, ge_of_same no_sum) })
+    rw (product_exactly (whole (pos 0)) (millionths (pos 1)))
+    (record { endpoints = (le_of_same no_sum, ge_of_same no_sum) })
 sums_within w k ts (suc n) =
     let x = integer k in
     let v = slice_index_or (planet_periodic_terms ts) n no_periodic_term in
@@ -194,9 +200,11 @@ sums_within w k ts (suc n) =
     ⊆ value w (scale (millionths (pos 1)) (turning_term_of x v)) = rw (term_at ts n)
     (term_within w k (slice_index_or ts n no_planet_term)) in
     within_trans (sum_within (sums_within w k ts n) t)
-    (scaled_sum (value w (terms_to (turning_term_of x) no_periodic_term (planet_periodic_terms ts) n)) (value w (turning_term_of x v))
+    (scaled_sum (value w (terms_to (turning_term_of x) no_periodic_term (planet_periodic_terms ts) n))
+    (value w (turning_term_of x v))
     (millionths (pos 1)) millionth_positive
-    (value_proper w (terms_to (turning_term_of x) no_periodic_term (planet_periodic_terms ts) n)) (value_proper w (turning_term_of x v)))
+    (value_proper w (terms_to (turning_term_of x) no_periodic_term (planet_periodic_terms ts) n))
+    (value_proper w (turning_term_of x v)))
 
 -- what holds a millionth of the periodic terms' sum at a number holds what the planets add
 pub planets_hold : {E : Type 0} (shown : E → Interval) (w : World) (k : ℤ) (e : E)

@@ -2,7 +2,8 @@
 use Rattle.std.specs.Prelude.{ℕ, suc, ◌*◌, ◌^◌, ◌≤◌, ◌<◌, unsigned_abs, ℤ, pos, negsuc, ◌+ℤ◌, ◌-ℤ◌, ◌*ℤ◌, ◌≤ℤ◌}
 use Rattle.book_model.specs.Fraction.{Fraction}
 use Rattle.book_model.specs.Interval.{Interval}
-use Rattle.book_model.specs.declared.new_moon_tables.TheConstants.{FIRST_RECENT_MOON, LAST_RECENT_MOON, NEW_MOON_OF_2000, RECENT_DAYS}
+use Rattle.book_model.specs.declared.new_moon_tables.TheConstants.{FIRST_RECENT_MOON, LAST_RECENT_MOON}
+use Rattle.book_model.specs.declared.new_moon_tables.TheConstants.{NEW_MOON_OF_2000, RECENT_DAYS}
 use Rattle.book_model.specs.programs.Widths.{IsWithin, IsAbout}
 use Rattle.periodic_terms.specs.Widths.{IsUsualEccentricity}
 use Rattle.new_moons.specs.declared.angles.Angles.{Angles}

@@ -17,7 +17,8 @@ regroup false d e = refl
 
 -- the code's test of two facts is that of the definitions
 pub same_fact_eq : (f g : Fact) → derived.eq-value.it f g ≡ fact_eq f g
-same_fact_eq f g = regroup (kind_number f.kind == kind_number g.kind) (place_number f.place == place_number g.place) (int_eq f.day g.day)
+same_fact_eq f g = regroup (kind_number f.kind == kind_number g.kind) (place_number f.place == place_number g.place)
+    (int_eq f.day g.day)
 
 -- a fact is among facts by either test
 pub same_any : (f : Fact) (seen : List Fact) → list_any (derived.eq-value.it f) seen ≡ list_any (fact_eq f) seen
@@ -25,7 +26,8 @@ same_any f [] = refl
 same_any f (g ∷ seen) = rw (same_fact_eq f g, same_any f seen) refl
 
 -- a fact has one place among facts by either test
-pub same_position : (f : Fact) (seen : List Fact) → position_or_len (derived.eq-value.it f) seen ≡ position_or_len (fact_eq f) seen
+pub same_position : (f : Fact) (seen : List Fact) → position_or_len (derived.eq-value.it f) seen ≡ position_or_len
+    (fact_eq f) seen
 same_position f [] = refl
 same_position f (g ∷ seen) = rw (same_fact_eq f g, same_position f seen) refl
 
@@ -43,7 +45,8 @@ one_day d e h = grind (arith, ints, h)
 -- facts that the test finds equal are one
 pub one_fact : (f g : Fact) → fact_eq f g ≡ true → f ≡ g
 one_fact f g h =
-    let e = all_three (kind_number f.kind == kind_number g.kind) (place_number f.place == place_number g.place) (int_eq f.day g.day) h in
+    let e = all_three (kind_number f.kind == kind_number g.kind) (place_number f.place == place_number g.place)
+    (int_eq f.day g.day) h in
     let k : f.kind ≡ g.kind = one_kind f.kind g.kind (grind (arith, nat_tests, e.0)) in
     let p : f.place ≡ g.place = one_place f.place g.place (grind (arith, nat_tests, e.1)) in
     let d : f.day ≡ g.day = one_day f.day g.day e.2 in

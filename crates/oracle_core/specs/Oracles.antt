@@ -15,10 +15,15 @@ after_pairs es = record { known = tt; asked = facts_of es }
 
 -- an oracle over listed facts knows them: a fact has the value that stands beside it
 abbrev pub by_table : Meaning FactTable
-by_table = record { value_of = λ t f v. value_beside t.facts t.values f ≡ Some v; kept_as = λ t f. f; may_stop = λ t. MayStopListed t.facts }
+by_table = record {
+  value_of = λ t f v. value_beside t.facts t.values f ≡ Some v;
+  kept_as = λ t f. f;
+  may_stop = λ t. MayStopListed t.facts;
+}
 
 -- either has one value of a fact at most
-pub one_by_evaluator : (k : Unit {0}) (f : Fact) (v w : ℤ) → by_evaluator.value_of k f v → by_evaluator.value_of k f w → v ≡ w
+pub one_by_evaluator : (k : Unit {0}) (f : Fact) (v w : ℤ) → by_evaluator.value_of k f v → by_evaluator.value_of k f w
+    → v ≡ w
 one_by_evaluator k f v w = one_truth f v w
 
 pub one_by_table : (t : FactTable) (f : Fact) (v w : ℤ) → by_table.value_of t f v → by_table.value_of t f w → v ≡ w

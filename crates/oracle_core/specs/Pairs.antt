@@ -1,5 +1,6 @@
 -- Facts beside their values.
-use Rattle.std.specs.Prelude.{◌≡◌, ◌&&◌, not, Bool, true, if◌then◌else◌, ℤ, ◌≤ℤ◌, List, [], ◌∷◌, ◌++◌, length, Option, Some, None}
+use Rattle.std.specs.Prelude.{◌≡◌, ◌&&◌, not, Bool, true, if◌then◌else◌, ℤ, ◌≤ℤ◌, List, [], ◌∷◌, ◌++◌, length, Option}
+use Rattle.std.specs.Prelude.{Some, None}
 use Rattle.std.specs.List.{list_any}
 use Rattle.std.proofs.Common.{arith}
 use Rattle.book_model.specs.declared.fact.Fact.{Fact}
@@ -57,7 +58,8 @@ pub record IsListing (facts : List Fact) (values : List ℤ) (asked : List Fact)
   pub listed : (f : Fact) → list_any (fact_eq f) asked ≡ true → list_any (fact_eq f) facts ≡ true
 
 -- a fact stands beside one value
-pub one_value_beside : (facts : List Fact) (values : List ℤ) (f : Fact) (v w : ℤ) → value_beside facts values f ≡ Some v → value_beside facts values f ≡ Some w
+pub one_value_beside : (facts : List Fact) (values : List ℤ) (f : Fact) (v w : ℤ) → value_beside facts values f ≡ Some v
+    → value_beside facts values f ≡ Some w
     → v ≡ w
 one_value_beside facts values f v w h k = cc
 

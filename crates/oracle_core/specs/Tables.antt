@@ -24,18 +24,21 @@ pub record ComesTo {A : Type 0} (i : Inquiry A) (table : Fact → ℤ) (facts : 
 
 -- Facts were asked of which values are known, and joined the list in order. Over every table that agrees on them the
 -- inquiry asks these and no others, and this is its result.
-pub record AnswersOver {Known A : Type 0} (m : Meaning Known) (i : Inquiry A) (old new : State Known) (a : A) : Type 0 where
-  pub facts : List Fact
-  pub valued : AreValued m old.known facts
-  pub asked : new.asked ≡ with_kept (m.kept_as old.known) old.asked facts
-  pub over : (table : Fact → ℤ) → AgreesOn m old.known facts table → ComesTo i table facts a
+pub record AnswersOver {Known A : Type 0} (m : Meaning Known) (i : Inquiry A) (old new : State Known) (a : A) : Type 0
+  where
+    pub facts : List Fact
+    pub valued : AreValued m old.known facts
+    pub asked : new.asked ≡ with_kept (m.kept_as old.known) old.asked facts
+    pub over : (table : Fact → ℤ) → AgreesOn m old.known facts table → ComesTo i table facts a
 
 -- Facts were asked of which values are known, and joined the list in order. Over every table that agrees on them the
 -- inquiry asks these first, and then the one at which the oracle returned early.
-pub record StopsOver {Known A : Type 0} (m : Meaning Known) (i : Inquiry A) (old new : State Known) (s : Stop) : Type 0 where
-  pub before : List Fact
-  pub fact : Fact
-  pub valued : AreValued m old.known before
-  pub asked : new.asked ≡ with_kept (m.kept_as old.known) old.asked before
-  pub over : (table : Fact → ℤ) → AgreesOn m old.known before table → IsPrefix (before ++ fact ∷ []) (facts_over table i)
-  pub stop : IsStopAt (m.may_stop old.known) (m.kept_as old.known fact) s
+pub record StopsOver {Known A : Type 0} (m : Meaning Known) (i : Inquiry A) (old new : State Known) (s : Stop) : Type 0
+  where
+    pub before : List Fact
+    pub fact : Fact
+    pub valued : AreValued m old.known before
+    pub asked : new.asked ≡ with_kept (m.kept_as old.known) old.asked before
+    pub over : (table : Fact → ℤ) → AgreesOn m old.known before table
+        → IsPrefix (before ++ fact ∷ []) (facts_over table i)
+    pub stop : IsStopAt (m.may_stop old.known) (m.kept_as old.known fact) s

@@ -1,6 +1,7 @@
 -- A sum of periodic terms is no further from 0 than its sizes, at whatever days: each sine lies in -1 .. 1, and so
 -- each row within its size. What lies in two spans lies in what they share, so that a sum may be cut to that.
-use Rattle.std.proofs.Common.{◌≡◌, ℕ, zero, suc, ◌+◌, ◌*◌, ◌^◌, refl, arith, unsigned_abs, neg_ℤ, ℤ, pos, ◌-ℤ◌, ◌≤ℤ◌, List, length, slice_index_or}
+use Rattle.std.proofs.Common.{◌≡◌, ℕ, zero, suc, ◌+◌, ◌*◌, ◌^◌, refl, arith, unsigned_abs, neg_ℤ, ℤ, pos, ◌-ℤ◌, ◌≤ℤ◌}
+use Rattle.std.proofs.Common.{List, length, slice_index_or}
 use Rattle.std.specs.Int.{int_max, int_min}
 use Rattle.std.proofs.lemmas.Int.{ints, clamps}
 use Rattle.book_model.specs.Fraction.{◌≤F◌, plus}
@@ -59,7 +60,8 @@ terms_about w x vs (suc n) =
     within_trans (sum_within (terms_about w x vs n) (term_about w x (slice_index_or vs n no_periodic_term)))
     (both_about _ _ _ (omega arith))
 
-pub any_holds : (w : World) (x : Expression) (vs : List PeriodicTerm) (slope sizes : ℕ) (lo hi : ℤ) → HasReach vs slope sizes
+pub any_holds : (w : World) (x : Expression) (vs : List PeriodicTerm) (slope sizes : ℕ) (lo hi : ℤ)
+    → HasReach vs slope sizes
     → lo ≡ neg_ℤ (pos (sizes * 2 ^ 56)) → hi ≡ pos (sizes * 2 ^ 56)
     → value w (terms_of (turning_term_of x) no_periodic_term vs) ⊆ between (units_of_56 lo) (units_of_56 hi)
 unfolding terms_of

@@ -1,5 +1,6 @@
 -- Where two octants meet, the sines at the end of one are those at the beginning of the other.
-use Rattle.std.proofs.Common.{◌≡◌, ℕ, zero, suc, ◌-◌, ◌≤◌, refl, arith, neg_ℤ, ℤ, pos, negsuc, ◌+ℤ◌, ◌-ℤ◌, ◌*ℤ◌, ◌≤ℤ◌, ◌<ℤ◌, ◌⊎◌, inl, inr}
+use Rattle.std.proofs.Common.{◌≡◌, ℕ, zero, suc, ◌-◌, ◌≤◌, refl, arith, neg_ℤ, ℤ, pos, negsuc, ◌+ℤ◌, ◌-ℤ◌, ◌*ℤ◌, ◌≤ℤ◌}
+use Rattle.std.proofs.Common.{◌<ℤ◌, ◌⊎◌, inl, inr}
 use Rattle.std.proofs.lemmas.Int.{ints}
 use Rattle.book_model.specs.Fraction.{Fraction, ◌≤F◌}
 use Rattle.book_model.proofs.Alternating.{sum_endpoints_in_order}
@@ -11,7 +12,8 @@ use Rattle.book_model.specs.numbers.Series.{sine_term, cosine_term}
 use Rattle.book_model.proofs.SeriesNesting.{sine_uppers, cosine_uppers}
 use Rattle.book_model.proofs.Terms.{sine_halving, cosine_halving}
 use Rattle.encl_core.specs.parts.TheConstants.{OCTANT}
-use Rattle.trig_series.specs.Kernel.{in_radians, in_radians_above, IsInRadians, IsAngle, AreSineEndpoints, AreCosineEndpoints}
+use Rattle.trig_series.specs.Kernel.{in_radians, in_radians_above, IsInRadians, IsAngle, AreSineEndpoints}
+use Rattle.trig_series.specs.Kernel.{AreCosineEndpoints}
 use Rattle.trig_series.proofs.Curves.{in_fifths}
 use Rattle.trig_series.proofs.KernelAngles.{angle_between, by_lower, by_upper}
 use Rattle.trig_series.proofs.PartLemmas.{above_fifths}
@@ -24,14 +26,16 @@ use Rattle.periodic_terms.specs.Turning.{HasSine, HasCosine, HasPoint}
 use Rattle.periodic_terms.proofs.Spreads.{sine_wider, cosine_wider, wider}
 
 -- ---- from the kernel's numbers
-pub sine_is : (d s : ℕ) (lo hi : ℤ) → ((n : ℕ) (x : Fraction) → 8 ≤ n → IsInRadians d x → AreSineEndpoints x s n) → (lo *ℤ pos 256 +ℤ pos 384) ≤ℤ pos s
+pub sine_is : (d s : ℕ) (lo hi : ℤ) → ((n : ℕ) (x : Fraction) → 8 ≤ n → IsInRadians d x → AreSineEndpoints x s n)
+    → (lo *ℤ pos 256 +ℤ pos 384) ≤ℤ pos s
     → pos s ≤ℤ (hi *ℤ pos 256 -ℤ pos 384) → HasSine d lo hi
 sine_is d s lo hi f l u = record {
   low = λ n m. le_trans _ _ _ (low_end (pos s) (pos 384) lo l) (f n _ (omega (arith, m)) (by_lower d)).low;
   high = λ n m. le_trans _ _ _ (f n _ (omega (arith, m)) (by_upper d)).high (high_end (pos s) (pos 384) hi u);
 }
 
-pub cosine_is : (d s : ℕ) (lo hi : ℤ) → ((n : ℕ) (x : Fraction) → 9 ≤ n → IsInRadians d x → AreCosineEndpoints x s n) → (lo *ℤ pos 256 +ℤ pos 320) ≤ℤ pos s
+pub cosine_is : (d s : ℕ) (lo hi : ℤ) → ((n : ℕ) (x : Fraction) → 9 ≤ n → IsInRadians d x → AreCosineEndpoints x s n)
+    → (lo *ℤ pos 256 +ℤ pos 320) ≤ℤ pos s
     → pos s ≤ℤ (hi *ℤ pos 256 -ℤ pos 320) → HasCosine d lo hi
 cosine_is d s lo hi f l u = record {
   low = λ n m. le_trans _ _ _ (low_end (pos s) (pos 320) lo l) (f n _ (omega (arith, m)) (by_upper d)).low;
@@ -43,31 +47,41 @@ eighth_angle : (x : Fraction) → IsInRadians OCTANT x → IsAngle 1448803891615
 eighth_angle x t = angle_between OCTANT _ 7244019458077122815 _ x (omega arith) refl refl refl t
 
 pub sine_at_45 : HasSine OCTANT (pos 50952413380206178) (pos 50952413380206182)
-sine_at_45 = sine_is OCTANT 13043817825332782175 _ _ (λ n x l t. sine_eighth n x l (eighth_angle x t)) (omega (arith, ints)) (omega (arith, ints))
+sine_at_45 = sine_is OCTANT 13043817825332782175 _ _ (λ n x l t. sine_eighth n x l (eighth_angle x t))
+    (omega (arith, ints)) (omega (arith, ints))
 
 pub cosine_at_45 : HasCosine OCTANT (pos 50952413380206178) (pos 50952413380206182)
-cosine_at_45 = cosine_is OCTANT 13043817825332782250 _ _ (λ n x l t. cosine_eighth n x l (eighth_angle x t)) (omega (arith, ints)) (omega (arith, ints))
+cosine_at_45 = cosine_is OCTANT 13043817825332782250 _ _ (λ n x l t. cosine_eighth n x l (eighth_angle x t))
+    (omega (arith, ints)) (omega (arith, ints))
 
 none_angle : (x : Fraction) → IsInRadians 0 x → IsAngle 0 x
 none_angle x t = angle_between 0 0 0 0 x (omega arith) refl refl refl t
 
-none_chain : Chain 0 51862 14106527 2962370717 462129831893 50834281508238 3660068268593165 153722867280912930 3074457345618258602 18446744073709551615
+none_chain : Chain 0 51862 14106527 2962370717 462129831893 50834281508238 3660068268593165 153722867280912930
+    3074457345618258602 18446744073709551615
 none_chain = record {
   k8 = innermost 0;
   k7 = keeps 14106527 0 51862 0 (high 0 0 51862 (omega arith) (omega arith)) (omega arith) (omega arith);
   k6 = keeps 2962370717 0 14106527 0 (high 0 0 14106527 (omega arith) (omega arith)) (omega arith) (omega arith);
   k5 = keeps 462129831893 0 2962370717 0 (high 0 0 2962370717 (omega arith) (omega arith)) (omega arith) (omega arith);
-  k4 = keeps 50834281508238 0 462129831893 0 (high 0 0 462129831893 (omega arith) (omega arith)) (omega arith) (omega arith);
-  k3 = keeps 3660068268593165 0 50834281508238 0 (high 0 0 50834281508238 (omega arith) (omega arith)) (omega arith) (omega arith);
-  k2 = keeps 153722867280912930 0 3660068268593165 0 (high 0 0 3660068268593165 (omega arith) (omega arith)) (omega arith) (omega arith);
-  k1 = keeps 3074457345618258602 0 153722867280912930 0 (high 0 0 153722867280912930 (omega arith) (omega arith)) (omega arith) (omega arith);
-  k0 = keeps 18446744073709551615 0 3074457345618258602 0 (high 0 0 3074457345618258602 (omega arith) (omega arith)) (omega arith) (omega arith);
+  k4 = keeps 50834281508238 0 462129831893 0 (high 0 0 462129831893 (omega arith) (omega arith)) (omega arith)
+      (omega arith);
+  k3 = keeps 3660068268593165 0 50834281508238 0 (high 0 0 50834281508238 (omega arith) (omega arith)) (omega arith)
+      (omega arith);
+  k2 = keeps 153722867280912930 0 3660068268593165 0 (high 0 0 3660068268593165 (omega arith) (omega arith))
+      (omega arith) (omega arith);
+  k1 = keeps 3074457345618258602 0 153722867280912930 0 (high 0 0 153722867280912930 (omega arith) (omega arith))
+      (omega arith) (omega arith);
+  k0 = keeps 18446744073709551615 0 3074457345618258602 0 (high 0 0 3074457345618258602 (omega arith) (omega arith))
+      (omega arith) (omega arith);
 }
 
 none_endpoints : (n : ℕ) (x : Fraction) → 8 ≤ n → IsInRadians 0 x → AreSineEndpoints x 0 n
 none_endpoints n x l t =
-    sine_near n 0 0 51862 14106527 2962370717 462129831893 50834281508238 3660068268593165 153722867280912930 3074457345618258602 18446744073709551615 0 x l
-    (omega arith) (omega arith) (high 0 0 0 (omega arith) (omega arith)) (high 0 0 18446744073709551615 (omega arith) (omega arith))
+    sine_near n 0 0 51862 14106527 2962370717 462129831893 50834281508238 3660068268593165 153722867280912930
+    3074457345618258602 18446744073709551615 0 x l
+    (omega arith) (omega arith) (high 0 0 0 (omega arith) (omega arith))
+    (high 0 0 18446744073709551615 (omega arith) (omega arith))
     (none_angle x t) none_chain
 
 pub sine_at_0 : HasSine 0 (negsuc 1) (pos 2)
@@ -81,15 +95,18 @@ sines_meet : (d : ℕ) (lo hi lo' hi' : ℤ) → d ≤ OCTANT → HasSine d lo h
 sines_meet d lo hi lo' hi' u h k =
     at_order lo hi'
     (le_trans _ _ _ (h.low 40 (omega arith))
-    (le_trans _ _ _ (sum_endpoints_in_order 40 (sine_term (in_radians d)) ((sine_halving (in_radians d) (in_fifths d u)).nonneg 41))
+    (le_trans _ _ _ (sum_endpoints_in_order 40 (sine_term (in_radians d))
+    ((sine_halving (in_radians d) (in_fifths d u)).nonneg 41))
     (le_trans _ _ _ (sine_uppers 40 _ _ (in_fifths d u) (above_fifths d u) (neighbours d)) (k.high 40 (omega arith)))))
 
 cosines_meet : (d : ℕ) (lo hi lo' hi' : ℤ) → d ≤ OCTANT → HasCosine d lo hi → HasCosine d lo' hi' → lo ≤ℤ hi'
 cosines_meet d lo hi lo' hi' u h k =
     at_order lo hi'
     (le_trans _ _ _ (h.low 40 (omega arith))
-    (le_trans _ _ _ (sum_endpoints_in_order 40 (cosine_term (in_radians_above d)) ((cosine_halving (in_radians_above d) (above_fifths d u)).nonneg 40))
-    (le_trans _ _ _ (cosine_uppers 39 _ _ (in_fifths d u) (above_fifths d u) (neighbours d)) (k.high 40 (omega arith)))))
+    (le_trans _ _ _ (sum_endpoints_in_order 40 (cosine_term (in_radians_above d))
+    ((cosine_halving (in_radians_above d) (above_fifths d u)).nonneg 40))
+    (le_trans _ _ _ (cosine_uppers 39 _ _ (in_fifths d u) (above_fifths d u) (neighbours d))
+    (k.high 40 (omega arith)))))
 
 -- ---- from the end of an octant to the beginning of the next
 turn_45 : (lo hi : ℤ) → HasSine OCTANT lo hi → HasCosine OCTANT (lo -ℤ pos 4) (hi +ℤ pos 4)
@@ -122,7 +139,8 @@ later zero lo hi h = turn_45 lo hi h
 later (suc zero) lo hi h = cosine_wider 0 _ _ _ _ (omega (arith, ints)) (omega (arith, ints)) h
 later (suc (suc zero)) lo hi h = turn_135 lo hi h
 later (suc (suc (suc zero))) lo hi h = turn_180 lo hi h
-later (suc (suc (suc (suc j)))) lo hi h = wider (suc j) 0 _ _ _ _ (omega (arith, ints)) (omega (arith, ints)) (later j _ _ h)
+later (suc (suc (suc (suc j)))) lo hi h = wider (suc j) 0 _ _ _ _ (omega (arith, ints)) (omega (arith, ints))
+    (later j _ _ h)
 
 pub earlier : (j : ℕ) (lo hi : ℤ) → HasPoint (suc j) 0 lo hi → HasPoint j OCTANT (lo -ℤ pos 4) (hi +ℤ pos 4)
 unfolding HasPoint
@@ -130,7 +148,8 @@ earlier zero lo hi h = turn_135 lo hi h
 earlier (suc zero) lo hi h = cosine_wider 0 _ _ _ _ (omega (arith, ints)) (omega (arith, ints)) h
 earlier (suc (suc zero)) lo hi h = turn_45 lo hi h
 earlier (suc (suc (suc zero))) lo hi h = turn_back_180 lo hi h
-earlier (suc (suc (suc (suc j)))) lo hi h = wider j OCTANT _ _ _ _ (omega (arith, ints)) (omega (arith, ints)) (earlier j _ _ h)
+earlier (suc (suc (suc (suc j)))) lo hi h = wider j OCTANT _ _ _ _ (omega (arith, ints)) (omega (arith, ints))
+    (earlier j _ _ h)
 
 -- ---- after the last octant of a turn comes the first
 twice_opposite : (a : ℤ) → neg_ℤ (neg_ℤ a) ≡ a
@@ -152,33 +171,41 @@ last_point : (i j d : ℕ) (lo hi : ℤ) → (suc i ≡ j) ⊎ ((i ≡ 7) × (j 
 last_point i j d lo hi (inl e) h = rw e h
 last_point i j d lo hi (inr e) h = rw e.0 (whole_turn_back d lo hi (rw e.1 at h))
 
-pub following : (k : ℤ) (lo hi : ℤ) → HasPoint (octant_of_turn k) OCTANT lo hi → HasPoint (octant_of_turn (k +ℤ pos 1)) 0 (lo -ℤ pos 4) (hi +ℤ pos 4)
-following k lo hi h = next_point _ _ 0 _ _ (next_turn k _ _ refl refl (floor_quotient_is k 7) (floor_quotient_is (k +ℤ pos 1) 7))
+pub following : (k : ℤ) (lo hi : ℤ) → HasPoint (octant_of_turn k) OCTANT lo hi
+    → HasPoint (octant_of_turn (k +ℤ pos 1)) 0 (lo -ℤ pos 4) (hi +ℤ pos 4)
+following k lo hi h = next_point _ _ 0 _ _ (next_turn k _ _ refl refl (floor_quotient_is k 7)
+    (floor_quotient_is (k +ℤ pos 1) 7))
     (later (octant_of_turn k) lo hi h)
 
-pub preceding : (k : ℤ) (lo hi : ℤ) → HasPoint (octant_of_turn (k +ℤ pos 1)) 0 lo hi → HasPoint (octant_of_turn k) OCTANT (lo -ℤ pos 4) (hi +ℤ pos 4)
+pub preceding : (k : ℤ) (lo hi : ℤ) → HasPoint (octant_of_turn (k +ℤ pos 1)) 0 lo hi
+    → HasPoint (octant_of_turn k) OCTANT (lo -ℤ pos 4) (hi +ℤ pos 4)
 preceding k lo hi h = earlier (octant_of_turn k) lo hi (last_point _ _ 0 lo hi
     (next_turn k _ _ refl refl (floor_quotient_is k 7) (floor_quotient_is (k +ℤ pos 1) 7)) h)
 
 -- ---- in the first half turn, and four octants later
 module _ (o d s : ℕ) (r : ℤ) (l : (r *ℤ pos 256) ≤ℤ pos s) (u : pos s <ℤ (r *ℤ pos 256 +ℤ pos 256)) where
-  pub half_0 : o ≡ 0 → ((n : ℕ) (x : Fraction) → 8 ≤ n → IsInRadians d x → AreSineEndpoints x s n) → HasPoint o d (r -ℤ pos 3) (r +ℤ pos 3)
+  pub half_0 : o ≡ 0 → ((n : ℕ) (x : Fraction) → 8 ≤ n → IsInRadians d x → AreSineEndpoints x s n)
+      → HasPoint o d (r -ℤ pos 3) (r +ℤ pos 3)
   unfolding HasPoint
   half_0 e f = rw e (sine_is d s _ _ f (omega (arith, ints, l)) (omega (arith, ints, u)))
 
-  pub half_1 : o ≡ 1 → ((n : ℕ) (x : Fraction) → 9 ≤ n → IsInRadians (OCTANT - d) x → AreCosineEndpoints x s n) → HasPoint o d (r -ℤ pos 3) (r +ℤ pos 3)
+  pub half_1 : o ≡ 1 → ((n : ℕ) (x : Fraction) → 9 ≤ n → IsInRadians (OCTANT - d) x → AreCosineEndpoints x s n)
+      → HasPoint o d (r -ℤ pos 3) (r +ℤ pos 3)
   unfolding HasPoint
   half_1 e f = rw e (cosine_is (OCTANT - d) s _ _ f (omega (arith, ints, l)) (omega (arith, ints, u)))
 
-  pub half_2 : o ≡ 2 → ((n : ℕ) (x : Fraction) → 9 ≤ n → IsInRadians d x → AreCosineEndpoints x s n) → HasPoint o d (r -ℤ pos 3) (r +ℤ pos 3)
+  pub half_2 : o ≡ 2 → ((n : ℕ) (x : Fraction) → 9 ≤ n → IsInRadians d x → AreCosineEndpoints x s n)
+      → HasPoint o d (r -ℤ pos 3) (r +ℤ pos 3)
   unfolding HasPoint
   half_2 e f = rw e (cosine_is d s _ _ f (omega (arith, ints, l)) (omega (arith, ints, u)))
 
-  pub half_3 : o ≡ 3 → ((n : ℕ) (x : Fraction) → 8 ≤ n → IsInRadians (OCTANT - d) x → AreSineEndpoints x s n) → HasPoint o d (r -ℤ pos 3) (r +ℤ pos 3)
+  pub half_3 : o ≡ 3 → ((n : ℕ) (x : Fraction) → 8 ≤ n → IsInRadians (OCTANT - d) x → AreSineEndpoints x s n)
+      → HasPoint o d (r -ℤ pos 3) (r +ℤ pos 3)
   unfolding HasPoint
   half_3 e f = rw e (sine_is (OCTANT - d) s _ _ f (omega (arith, ints, l)) (omega (arith, ints, u)))
 
-pub later_half : (o d : ℕ) (r : ℤ) → 4 ≤ o → HasPoint (o - 4) d (r -ℤ pos 3) (r +ℤ pos 3) → HasPoint o d ((pos 0 -ℤ r) -ℤ pos 3) ((pos 0 -ℤ r) +ℤ pos 3)
+pub later_half : (o d : ℕ) (r : ℤ) → 4 ≤ o → HasPoint (o - 4) d (r -ℤ pos 3) (r +ℤ pos 3)
+    → HasPoint o d ((pos 0 -ℤ r) -ℤ pos 3) ((pos 0 -ℤ r) +ℤ pos 3)
 unfolding HasPoint
 later_half zero d r h k = absurd (omega (arith, h))
 later_half (suc zero) d r h k = absurd (omega (arith, h))

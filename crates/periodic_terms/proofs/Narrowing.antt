@@ -4,7 +4,8 @@ use Rattle.std.specs.Prelude.{nat_lt}
 use Rattle.std.proofs.lemmas.Int.{ints}
 use Rattle.book_model.specs.Interval.{Interval, everything, between, ◌⊆◌}
 use Rattle.book_model.proofs.Intervals.{within_everything}
-use Rattle.book_model.specs.numbers.Bounds.{Bound, bounded, Reach, IsNarrow, bound_of, implies, limits_at, limits_of, power_bound, range_size, spanned_bound}
+use Rattle.book_model.specs.numbers.Bounds.{Bound, bounded, Reach, IsNarrow, bound_of, implies, limits_at, limits_of}
+use Rattle.book_model.specs.numbers.Bounds.{power_bound, range_size, spanned_bound}
 use Rattle.book_model.specs.numbers.Expressions.{Expression, World, argument, power, value}
 use Rattle.book_model.specs.numbers.Relations.{Lies, Narrow, Within}
 use Rattle.book_model.specs.programs.Leading.{units_of_56}
@@ -19,7 +20,8 @@ pub some_span : (a b : ℤ) (v : ℕ) (i : Interval) → i ≡ everything → Is
 unfolding IsNarrow
 some_span a b v i e h = let k : IsNarrow 0 (bounded a b 0 v) everything = rw e at h.kept in k
 
-pub endpoints_of : (a b : ℤ) (v : ℕ) (i : Interval) (lo hi : ℤ) → lo ≤ℤ hi → i ⊆ between (units_of_56 lo) (units_of_56 hi)
+pub endpoints_of : (a b : ℤ) (v : ℕ) (i : Interval) (lo hi : ℤ) → lo ≤ℤ hi
+    → i ⊆ between (units_of_56 lo) (units_of_56 hi)
     → between (units_of_56 lo) (units_of_56 hi) ⊆ i → IsWithin a b v i → AreKept a b 0 v 0 lo hi
 unfolding IsNarrow
 endpoints_of a b v i lo hi o g h k = kept_of a b 0 v 0 lo hi (span_keeps 0 (bounded a b 0 v) i lo hi o g h k.kept)

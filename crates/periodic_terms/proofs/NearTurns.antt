@@ -1,11 +1,13 @@
 -- What is near a turn: multiples and sums of it, and its sine. Whole turns are counted apart, so that each lemma is
 -- about numbers that don't wrap.
-use Rattle.std.proofs.Common.{◌≡◌, ℕ, ◌+◌, ◌*◌, ◌/◌, ◌^◌, ◌≤◌, ◌<◌, refl, arith, unsigned_abs, neg_ℤ, ℤ, pos, ◌+ℤ◌, ◌-ℤ◌, ◌*ℤ◌, ◌≤ℤ◌, ◌<ℤ◌, [], ◌∷◌}
+use Rattle.std.proofs.Common.{◌≡◌, ℕ, ◌+◌, ◌*◌, ◌/◌, ◌^◌, ◌≤◌, ◌<◌, refl, arith, unsigned_abs, neg_ℤ, ℤ, pos, ◌+ℤ◌}
+use Rattle.std.proofs.Common.{◌-ℤ◌, ◌*ℤ◌, ◌≤ℤ◌, ◌<ℤ◌, [], ◌∷◌}
 use Rattle.std.proofs.lemmas.Int.{ints}
 use Rattle.book_model.specs.Fraction.{◌≤F◌, whole, plus, times}
 use Rattle.book_model.specs.Interval.{Interval, between, IsProper, ◌⊆◌, sum, product}
 use Rattle.book_model.proofs.Fractions.{le_refl}
-use Rattle.book_model.proofs.Intervals.{within_trans, within_refl, sum_within, product_within, least_keeps, greatest_keeps}
+use Rattle.book_model.proofs.Intervals.{within_trans, within_refl, sum_within, product_within, least_keeps}
+use Rattle.book_model.proofs.Intervals.{greatest_keeps}
 use Rattle.book_model.proofs.Ring.{at, lit, ◌⊕◌, ◌⊗◌, ring}
 use Rattle.book_model.specs.numbers.Expressions.{exactly}
 use Rattle.book_model.specs.numbers.Octants.{only, sine_of_degrees}
@@ -14,7 +16,8 @@ use Rattle.encl_core.specs.parts.TheConstants.{OCTANT}
 use Rattle.trig_series.proofs.KernelAngles.{product_endpoints}
 use Rattle.periodic_terms.specs.Turning.{HasPoint, octant_of, degrees_of}
 use Rattle.periodic_terms.proofs.Around.{IsAngleNear, sine_near}
-use Rattle.periodic_terms.proofs.RowsByTime.{corners, octant_is, degrees_are, degrees_few, octant_few, abs_above, abs_below}
+use Rattle.periodic_terms.proofs.RowsByTime.{corners, octant_is, degrees_are, degrees_few, octant_few, abs_above}
+use Rattle.periodic_terms.proofs.RowsByTime.{abs_below}
 use Rattle.periodic_terms.specs.Angles.{in_61, IsAround, IsKnown, IsNearTurn, IsTurnAt, IsWideTurnAt}
 
 -- ---- order

@@ -1,5 +1,6 @@
 -- Products, as the code has them.
-use Rattle.std.proofs.Common.{[], ◌∷◌, refl, ap, ◌∙◌, ◌≡◌, ℕ, ◌*◌, ◌^◌, ◌≤◌, ◌<◌, arith, unsigned_abs, neg_ℤ, ℤ, pos, ◌+ℤ◌, ◌-ℤ◌, ◌*ℤ◌, ◌≤ℤ◌, SFits}
+use Rattle.std.proofs.Common.{[], ◌∷◌, refl, ap, ◌∙◌, ◌≡◌, ℕ, ◌*◌, ◌^◌, ◌≤◌, ◌<◌, arith, unsigned_abs, neg_ℤ, ℤ, pos}
+use Rattle.std.proofs.Common.{◌+ℤ◌, ◌-ℤ◌, ◌*ℤ◌, ◌≤ℤ◌, SFits}
 use Rattle.std.specs.Int.{w128}
 use Rattle.std.proofs.lemmas.Int.{ints}
 use Rattle.book_model.proofs.Ring.{at, lit, ◌⊗◌, ring}

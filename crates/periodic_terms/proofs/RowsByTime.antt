@@ -2,14 +2,16 @@
 -- is a sum of fractions, that of the code a binary angle, a count of parts of a turn: both are brought to parts of
 -- 2^-56 degrees, where each rounding is an inequality between whole numbers, and these are added up by a certificate
 -- (`le_over`). From the angle the sine follows by `sine_far`, and the row by its size.
-use Rattle.std.proofs.Common.{◌<◌, ◌≡◌, ℕ, ◌+◌, ◌*◌, ◌/◌, ◌-◌, ◌^◌, ◌≤◌, refl, ap, arith, unsigned_abs, neg_ℤ, ℤ, pos, negsuc, ◌+ℤ◌, ◌-ℤ◌, ◌*ℤ◌, ◌≤ℤ◌, ◌<ℤ◌, [], ◌∷◌}
+use Rattle.std.proofs.Common.{◌<◌, ◌≡◌, ℕ, ◌+◌, ◌*◌, ◌/◌, ◌-◌, ◌^◌, ◌≤◌, refl, ap, arith, unsigned_abs, neg_ℤ, ℤ, pos}
+use Rattle.std.proofs.Common.{negsuc, ◌+ℤ◌, ◌-ℤ◌, ◌*ℤ◌, ◌≤ℤ◌, ◌<ℤ◌, [], ◌∷◌}
 use Rattle.std.proofs.lemmas.Int.{ints}
 use Rattle.book_model.specs.Fraction.{Fraction, ◌≤F◌, whole, plus, times, floor_quotient}
 use Rattle.book_model.specs.Interval.{Interval, between, IsProper, ◌⊆◌, sum, product, least, greatest}
 use Rattle.book_model.proofs.Bounds.{◌≼◌, known, ◌⊞◌, ◌⊠◌, times as naturally, le_by, le_over}
 use Rattle.book_model.proofs.Floors.{IsFloorQuotient, floor_quotient_is}
 use Rattle.book_model.proofs.Fractions.{le_refl}
-use Rattle.book_model.proofs.Intervals.{within_trans, within_refl, sum_within, product_within, plus_proper, product_proper, least_keeps, greatest_keeps}
+use Rattle.book_model.proofs.Intervals.{within_trans, within_refl, sum_within, product_within, plus_proper}
+use Rattle.book_model.proofs.Intervals.{product_proper, least_keeps, greatest_keeps}
 use Rattle.book_model.proofs.Ring.{at, lit, ◌⊕◌, ◌⊖◌, ◌⊗◌}
 use Rattle.book_model.specs.programs.Leading.{units_of_56}
 use Rattle.book_model.specs.declared.polynomial.PeriodicTerm.{PeriodicTerm}
@@ -21,7 +23,8 @@ use Rattle.book_model.proofs.Values.{value_proper}
 use Rattle.encl_core.specs.parts.TheConstants.{OCTANT}
 use Rattle.trig_series.proofs.KernelAngles.{product_endpoints}
 use Rattle.trig_series.proofs.OctantLemmas.{order_at}
-use Rattle.periodic_terms.specs.Turning.{HasPoint, octant_of, degrees_of, IsTurning, AreNear, turning_term_of, radius_of, turn_part, whole_turns}
+use Rattle.periodic_terms.specs.Turning.{HasPoint, octant_of, degrees_of, IsTurning, AreNear, turning_term_of}
+use Rattle.periodic_terms.specs.Turning.{radius_of, turn_part, whole_turns}
 use Rattle.periodic_terms.specs.declared.rows_by_time.TurningTerm.{TurningTerm}
 use Rattle.periodic_terms.proofs.Around.{IsAngleNear}
 use Rattle.periodic_terms.proofs.Farther.{sine_far}

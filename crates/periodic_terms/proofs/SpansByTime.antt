@@ -1,7 +1,8 @@
 -- The radius of a sum over an interval of days: it has room for the radius of every row, and the sum is hardly wider
 -- than the slope makes it.
 use Rattle.std.specs.Prelude.{IfSome, Some, None, Option}
-use Rattle.std.proofs.Common.{◌≡◌, ℕ, ◌*◌, ◌^◌, refl, arith, neg_ℤ, ℤ, pos, ◌+ℤ◌, ◌-ℤ◌, ◌*ℤ◌, ◌≤ℤ◌, List, length, [], ◌∷◌, SFits}
+use Rattle.std.proofs.Common.{◌≡◌, ℕ, ◌*◌, ◌^◌, refl, arith, neg_ℤ, ℤ, pos, ◌+ℤ◌, ◌-ℤ◌, ◌*ℤ◌, ◌≤ℤ◌, List, length, []}
+use Rattle.std.proofs.Common.{◌∷◌, SFits}
 use Rattle.std.specs.Int.{w128}
 use Rattle.std.proofs.lemmas.Int.{ints, by_lt_z}
 use Rattle.book_model.specs.Interval.{Interval, between, ◌⊆◌}

@@ -1,7 +1,8 @@
 -- The sum of the rows of a table of periodic terms: what lies around two numbers adds up to what lies around their
 -- sum, row by row, and the radii of all rows add up to what two sums over the table say, of the sizes and of the
 -- sizes times the rates.
-use Rattle.std.proofs.Common.{◌≡◌, ℕ, zero, suc, ◌+◌, ◌*◌, ◌/◌, refl, arith, unsigned_abs, ℤ, pos, ◌+ℤ◌, ◌-ℤ◌, ◌*ℤ◌, ◌≤ℤ◌, add-one, List, length, slice_index_or, [], ◌∷◌}
+use Rattle.std.proofs.Common.{◌≡◌, ℕ, zero, suc, ◌+◌, ◌*◌, ◌/◌, refl, arith, unsigned_abs, ℤ, pos, ◌+ℤ◌, ◌-ℤ◌, ◌*ℤ◌}
+use Rattle.std.proofs.Common.{◌≤ℤ◌, add-one, List, length, slice_index_or, [], ◌∷◌}
 use Rattle.std.proofs.lemmas.Int.{ints}
 use Rattle.book_model.specs.Fraction.{plus}
 use Rattle.book_model.specs.Interval.{Interval, between, ◌⊆◌, sum}
@@ -21,7 +22,8 @@ around n e = between (units_of_56 (n -ℤ pos e)) (units_of_56 (n +ℤ pos e))
 
 sum_around : (a b : ℤ) (d e : ℕ) → sum (around a d) (around b e) ⊆ around (a +ℤ b) (d + e)
 unfolding sum plus
-sum_around a b d e = record { endpoints = (record { cross = omega (arith, ints) }, record { cross = omega (arith, ints) }) }
+sum_around a b d e =
+    record { endpoints = (record { cross = omega (arith, ints) }, record { cross = omega (arith, ints) }) }
 
 pub none_around : (w : World) (x : Expression) (vs : List PeriodicTerm) (width : ℕ)
     → value w (terms_to (turning_term_of x) no_periodic_term vs 0) ⊆ around (pos 0) (radius_to vs width 0)

@@ -2,7 +2,8 @@
 -- the terms of the definitions, for which the angle of a row is the sum of its multiples, one after another.
 use Rattle.std.specs.Prelude.{◌&&◌}
 use Rattle.std.specs.Int.Signed.{le_z, le_z_yes}
-use Rattle.std.proofs.Common.{◌≡◌, ℕ, zero, suc, ◌+◌, ◌*◌, ◌^◌, ◌≤◌, refl, arith, Bool, true, false, unsigned_abs, ℤ, pos, ◌+ℤ◌, ◌*ℤ◌, ◌≤ℤ◌, List}
+use Rattle.std.proofs.Common.{◌≡◌, ℕ, zero, suc, ◌+◌, ◌*◌, ◌^◌, ◌≤◌, refl, arith, Bool, true, false, unsigned_abs, ℤ}
+use Rattle.std.proofs.Common.{pos, ◌+ℤ◌, ◌*ℤ◌, ◌≤ℤ◌, List}
 use Rattle.std.proofs.Common.{[], ◌∷◌, ◌<◌, length, slice_index_or}
 use Rattle.std.proofs.lemmas.Float.{T_from_true}
 use Rattle.std.proofs.lemmas.Int.{ints}
@@ -21,11 +22,14 @@ use Rattle.book_model.specs.sky.NewMoons.{NewMoonAngles, angle_of_new_moon_term,
 use Rattle.book_model.proofs.Values.{value_proper}
 use Rattle.periodic_terms.specs.Angles.{IsKnown, IsNearTurn}
 use Rattle.periodic_terms.specs.MeanAngles.{with_elongation}
-use Rattle.periodic_terms.specs.Multiples.{AreFew, AreKnown, AreSmall, AreTerms, AreTurns, AreTwoTurns, HasSums, IsSmallRow, IsTerm, count_of, half_of, multiples_of, sums_to}
-use Rattle.periodic_terms.specs.Tables.{distance_row_of, greatest_rows, longitude_row_of, latitude_row_of, new_moon_row_of, other_rows}
+use Rattle.periodic_terms.specs.Multiples.{AreFew, AreKnown, AreSmall, AreTerms, AreTurns, AreTwoTurns, HasSums}
+use Rattle.periodic_terms.specs.Multiples.{IsSmallRow, IsTerm, count_of, half_of, multiples_of, sums_to}
+use Rattle.periodic_terms.specs.Tables.{distance_row_of, greatest_rows, longitude_row_of, latitude_row_of}
+use Rattle.periodic_terms.specs.Tables.{new_moon_row_of, other_rows}
 use Rattle.periodic_terms.specs.declared.mean.MeanTurns.{MeanTurns}
 use Rattle.periodic_terms.specs.declared.term_rows.Multiples.{Multiples}
-use Rattle.periodic_terms.specs.declared.tables.TheConstants.{DISTANCE_SUMS, GREATEST_SUMS, LATITUDE_SUMS, LONGITUDE_SUMS, NEW_MOON_SUMS, OTHER_SUMS}
+use Rattle.periodic_terms.specs.declared.tables.TheConstants.{DISTANCE_SUMS, GREATEST_SUMS, LATITUDE_SUMS}
+use Rattle.periodic_terms.specs.declared.tables.TheConstants.{LONGITUDE_SUMS, NEW_MOON_SUMS, OTHER_SUMS}
 use Rattle.periodic_terms.proofs.NearTurns.{multiple_near, none_near, sum_near}
 
 -- ---- small rows

@@ -1,7 +1,8 @@
 -- What a row adds, from the sine at its turn: the angle's turn is near, so the sine is, and a product of what is near a
 -- factor and a sine is near their product. All roundings are inequalities between whole numbers, added up by
 -- certificates.
-use Rattle.std.proofs.Common.{mul-le-mul, ◌≡◌, ℕ, zero, suc, ◌+◌, ◌*◌, ◌/◌, ◌-◌, ◌^◌, ◌≤◌, ◌<◌, refl, arith, unsigned_abs, neg_ℤ, ℤ, pos, negsuc}
+use Rattle.std.proofs.Common.{mul-le-mul, ◌≡◌, ℕ, zero, suc, ◌+◌, ◌*◌, ◌/◌, ◌-◌, ◌^◌, ◌≤◌, ◌<◌, refl, arith}
+use Rattle.std.proofs.Common.{unsigned_abs, neg_ℤ, ℤ, pos, negsuc}
 use Rattle.std.proofs.Common.{◌+ℤ◌, ◌-ℤ◌, ◌*ℤ◌, ◌≤ℤ◌, ◌<ℤ◌, [], ◌∷◌}
 use Rattle.std.proofs.lemmas.Int.{ints}
 use Rattle.book_model.specs.Fraction.{Fraction, ◌≤F◌, times, below_product}
@@ -20,7 +21,9 @@ use Rattle.trig_series.proofs.SineLemmas.{all_cosines_hold, all_hold, quarter_pr
 use Rattle.periodic_terms.specs.Turning.{HasPoint, octant_of, degrees_of}
 use Rattle.periodic_terms.proofs.RowsByTime.{corners, abs_above, abs_below}
 use Rattle.periodic_terms.specs.Angles.{IsFactor, IsNearTurn}
-use Rattle.periodic_terms.specs.Multiples.{in_93, around_93, AreKnown, IsSmallRow, IsTerm, factor_of, half_of, most_of, multiples_of, powered_of, radius_of, spread_by, sums_of, turns_of, periodic_term_of}
+use Rattle.periodic_terms.specs.Multiples.{in_93, around_93, AreKnown, IsSmallRow, IsTerm, factor_of, half_of, most_of}
+use Rattle.periodic_terms.specs.Multiples.{multiples_of, powered_of, radius_of, spread_by, sums_of, turns_of}
+use Rattle.periodic_terms.specs.Multiples.{periodic_term_of}
 use Rattle.periodic_terms.specs.declared.term_rows.Multiples.{Multiples}
 use Rattle.periodic_terms.specs.declared.mean.MeanFactors.{MeanFactors}
 use Rattle.periodic_terms.specs.declared.mean.MeanTurn.{MeanTurn}
@@ -215,7 +218,8 @@ plain_within g s r i h k =
     (2 ^ 37)) ⊗ at 1) (at 0 ⊗ at 1) (known 0 ⊠ known 1) refl (omega (arith, ints, h), (pos_nonneg r, tt)) in
     endpoints_of (pos g *ℤ pos r) e k
   where
-    endpoints_of : (m : ℤ) → (pos (2 ^ 37) *ℤ pos r) ≤ℤ m → i ⊆ between (units_of_56 (s -ℤ pos r)) (units_of_56 (s +ℤ pos r))
+    endpoints_of : (m : ℤ) → (pos (2 ^ 37) *ℤ pos r) ≤ℤ m → i ⊆ between (units_of_56 (s -ℤ pos r))
+        (units_of_56 (s +ℤ pos r))
         → i ⊆ between (in_93 0 (pos (2 ^ 37) *ℤ s -ℤ (m +ℤ pos 0))) (in_93 0 (pos (2 ^ 37) *ℤ s +ℤ (m +ℤ pos 0)))
     endpoints_of m e k = within_trans k (record {
       endpoints = (
@@ -286,7 +290,8 @@ power_within w t (suc (suc zero)) factor x s q r few a b l u f g h =
 power_within w t (suc (suc (suc k))) factor x s q r few a b l u f g h = absurd (omega (arith, few))
 
 -- ---- the sine or the cosine at a turn
-periodic_term_within : (w : World) (q : ℕ) (x : Expression) (turn : ℕ) (t z s : ℤ) (h : ℕ) → q ≤ 1 → 40 ≤ w.depth → turn < 2 ^ 64
+periodic_term_within : (w : World) (q : ℕ) (x : Expression) (turn : ℕ) (t z s : ℤ) (h : ℕ) → q ≤ 1 → 40 ≤ w.depth
+    → turn < 2 ^ 64
     → pos turn ≡ (t +ℤ pos (q * 2 ^ 62)) -ℤ z *ℤ pos (2 ^ 64) → h ≤ 2 ^ 65
     → HasPoint (octant_of turn) (degrees_of turn) (s -ℤ pos 3) (s +ℤ pos 3) → IsNearTurn t h (value w x)
     → value w (periodic_term_of q x) ⊆ between (units_of_56 ((s -ℤ pos 3) -ℤ pos (sine_width h)))
@@ -374,11 +379,13 @@ unfolding value
 row_holds w u t r x turn z s q y deep all small h k l v e =
     let m = sine_radius t r in
     let periodic_term = periodic_term_of r.quarters k.angle in
-    let near = periodic_term_within w r.quarters k.angle turn (multiples_of t r) z s (half_of t r) small.quarters deep h.fits
+    let near = periodic_term_within w r.quarters k.angle turn (multiples_of t r) z s (half_of t r) small.quarters
+    deep h.fits
     h.reduced (width_bound t r small) h.point
     (k.near all) in
     let there = sine_wider s (sine_width (half_of t r)) m (value w periodic_term) (radius_enough t r) near in
-    let powered = power_within w t r.power k.factor periodic_term s q m small.power h.greatest h.least l v k.first k.second there
+    let powered = power_within w t r.power k.factor periodic_term s q m small.power h.greatest h.least l v k.first
+    k.second there
     in
     let n = t.factors.greatest * m + width_of t r.power * 2 ^ 37 in
     let sized = sized_within u r.size (pos (2 ^ 37) *ℤ q) n (value w (times_power k.factor r.power periodic_term))
@@ -388,7 +395,8 @@ row_holds w u t r x turn z s q y deep all small h k l v e =
 
 -- ---- what a row is at most, whatever its angle
 term_most : (w : World) (q : ℕ) (x : Expression)
-    → value w (periodic_term_of q x) ⊆ between (units_of_56 (pos 0 -ℤ pos (2 ^ 56))) (units_of_56 (pos 0 +ℤ pos (2 ^ 56)))
+    → value w (periodic_term_of q x) ⊆ between (units_of_56 (pos 0 -ℤ pos (2 ^ 56)))
+    (units_of_56 (pos 0 +ℤ pos (2 ^ 56)))
 unfolding value
 term_most w zero x = all_hold w.depth (value w x) _ _ (value_proper w x) refl refl
 term_most w (suc q) x = all_cosines_hold w.depth (value w x) _ _ (value_proper w x) refl refl

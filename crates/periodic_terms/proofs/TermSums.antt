@@ -1,6 +1,7 @@
 -- The sum of the rows of a table: what lies around two numbers adds up to what lies around their sum, row by row, and
 -- the radius of all is that of the rows' totals.
-use Rattle.std.proofs.Common.{sym, subst, ◌∙◌, ◌≡◌, ℕ, zero, suc, ◌+◌, ◌*◌, ◌/◌, ◌-◌, ◌^◌, ◌≤◌, ◌<◌, refl, ap, arith, ℤ, pos, ◌+ℤ◌, ◌-ℤ◌}
+use Rattle.std.proofs.Common.{sym, subst, ◌∙◌, ◌≡◌, ℕ, zero, suc, ◌+◌, ◌*◌, ◌/◌, ◌-◌, ◌^◌, ◌≤◌, ◌<◌, refl, ap, arith, ℤ}
+use Rattle.std.proofs.Common.{pos, ◌+ℤ◌, ◌-ℤ◌}
 use Rattle.std.proofs.Common.{◌*ℤ◌, add-one, List, length, slice_index_or, [], ◌∷◌}
 use Rattle.std.proofs.lemmas.Int.{ints}
 use Rattle.book_model.specs.Fraction.{◌≤F◌, plus, below_product}
@@ -11,7 +12,8 @@ use Rattle.book_model.proofs.Intervals.{within_trans, sum_within}
 use Rattle.book_model.proofs.Ring.{at, lit, ◌⊕◌, ◌⊗◌, ring}
 use Rattle.book_model.specs.numbers.Expressions.{Expression, World, value}
 use Rattle.book_model.specs.numbers.Terms.{terms_to, terms_of}
-use Rattle.periodic_terms.specs.Multiples.{AreSmall, AreTerms, IsSmallRow, IsTerm, in_93, around_93, most_of, no_sums, radius_of, sums_of, sums_to, together}
+use Rattle.periodic_terms.specs.Multiples.{AreSmall, AreTerms, IsSmallRow, IsTerm, in_93, around_93, most_of, no_sums}
+use Rattle.periodic_terms.specs.Multiples.{radius_of, sums_of, sums_to, together}
 use Rattle.periodic_terms.specs.declared.term_sums.RowSums.{RowSums}
 use Rattle.periodic_terms.specs.declared.term_rows.Multiples.{Multiples}
 use Rattle.periodic_terms.specs.declared.mean.MeanFactors.{MeanFactors}

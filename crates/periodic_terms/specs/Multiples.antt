@@ -1,5 +1,6 @@
 -- Terms whose angles are sums of multiples of a few mean angles, each of which is known as a turn.
-use Rattle.std.specs.Prelude.{◌≡◌, ℕ, zero, suc, true, ◌+◌, ◌*◌, ◌/◌, ◌-◌, ◌^◌, ◌≤◌, ◌<◌, unsigned_abs, ℤ, pos, ◌+ℤ◌, ◌-ℤ◌, ◌*ℤ◌, List, length, slice_index_or}
+use Rattle.std.specs.Prelude.{◌≡◌, ℕ, zero, suc, true, ◌+◌, ◌*◌, ◌/◌, ◌-◌, ◌^◌, ◌≤◌, ◌<◌, unsigned_abs, ℤ, pos, ◌+ℤ◌}
+use Rattle.std.specs.Prelude.{◌-ℤ◌, ◌*ℤ◌, List, length, slice_index_or}
 use Rattle.book_model.specs.Fraction.{Fraction, below_product}
 use Rattle.book_model.specs.Interval.{Interval, between}
 use Rattle.book_model.specs.numbers.Expressions.{Expression, World, value, scale, sine, cosine, power}
@@ -72,7 +73,8 @@ pub record AreKnown (t : MeanTurns) : Type 0 where
 pub record IsTerm (w : World) (u : ℕ) (t : MeanTurns) (r : Multiples) (x : Expression) : Type 0 where
   pub factor : Expression
   pub angle : Expression
-  pub is : x ≡ scale (record { num = r.size; below = u }) (times_power factor r.power (periodic_term_of r.quarters angle))
+  pub is : x ≡ scale (record { num = r.size; below = u })
+      (times_power factor r.power (periodic_term_of r.quarters angle))
   pub near : AreKnown t → IsNearTurn (multiples_of t r) (half_of t r) (value w angle)
   pub first : r.power ≡ 1 → IsFactor t.factors.first t.factors.wide (value w factor)
   pub second : r.power ≡ 2 → IsFactor t.factors.second t.factors.wide (value w (power factor 2))

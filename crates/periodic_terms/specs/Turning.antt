@@ -1,7 +1,8 @@
 -- Periodic terms by turns and days, and how far a sum of their rows may be off; where the sines at an angle of an
 -- octant lie. A phase counts 10^-7 degrees, and a rate the same a century: 3600000000 of them are a turn, and
 -- 365250000000 a degree a day.
-use Rattle.std.specs.Prelude.{◌≡◌, ℕ, zero, suc, ◌+◌, ◌*◌, ◌/◌, ◌-◌, ◌^◌, ◌≤◌, ◌<◌, unsigned_abs, ℤ, pos, neg_ℤ, ◌+ℤ◌, ◌-ℤ◌, ◌*ℤ◌, ◌≤ℤ◌, List, length, slice_index_or}
+use Rattle.std.specs.Prelude.{◌≡◌, ℕ, zero, suc, ◌+◌, ◌*◌, ◌/◌, ◌-◌, ◌^◌, ◌≤◌, ◌<◌, unsigned_abs, ℤ, pos, neg_ℤ, ◌+ℤ◌}
+use Rattle.std.specs.Prelude.{◌-ℤ◌, ◌*ℤ◌, ◌≤ℤ◌, List, length, slice_index_or}
 use Rattle.book_model.specs.Fraction.{◌≤F◌, whole, floor_quotient}
 use Rattle.book_model.specs.Sums.{lower, upper}
 use Rattle.book_model.specs.programs.Leading.{units_of_56}
@@ -60,8 +61,8 @@ unfoldable pub turning_term_of : Expression → PeriodicTerm → Expression
 turning_term_of x v = scale (whole v.size) (sine (add (constant (ten_millionths v.phase))
     (scale (daily_ten_millionths v.rate) x)))
 
--- how far what a periodic term adds is off at most, in 2^-56, for days that are at most w off, in 2^-56: its angle moves by rate
--- * w, and its sine by a 57th of that; 20819250000000 is 57 * 365250000000. The roundings of a row are 28
+-- how far what a periodic term adds is off at most, in 2^-56, for days that are at most w off, in 2^-56: its angle
+-- moves by rate * w, and its sine by a 57th of that; 20819250000000 is 57 * 365250000000. The roundings of a row are 28
 abbrev pub radius_of : PeriodicTerm → ℕ → ℕ
 radius_of v w = unsigned_abs v.size * (unsigned_abs v.rate * w / 20819250000000 + 28)
 
@@ -96,8 +97,8 @@ pub record AreNear (mid : ℤ) (w : ℕ) (lo hi : ℤ) : Type 0 where
   pub least : neg_ℤ (pos (2 ^ 68)) ≤ℤ mid
   pub greatest : mid ≤ℤ pos (2 ^ 68)
 
--- a slope in units of 2^-32 is at least a 57th of the sum of the sizes times the rates a day, in degrees, and the sizes add up
--- to no more than this
+-- a slope in units of 2^-32 is at least a 57th of the sum of the sizes times the rates a day, in degrees, and the sizes
+-- add up to no more than this
 pub record HasReach (vs : List PeriodicTerm) (slope sizes : ℕ) : Type 0 where
   pub reach : (pos (reach_to vs (length vs)) *ℤ pos (2 ^ 32)) ≤ℤ (pos slope *ℤ pos 20819250000000)
   pub total : pos (sizes_to vs (length vs)) ≤ℤ pos sizes

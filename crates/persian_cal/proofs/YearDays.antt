@@ -14,22 +14,26 @@ pub year_stands : (year : ℤ) → LiesWithin (negsuc 29999) (pos 30000) year �
 year_stands year h = grind (arith, ints, h.from, h.to)
 
 -- the days before one of twelve months
-pub twelve_months : (month : ℤ) → LiesWithin (pos 1) (pos 12) month → LiesWithin (pos 0) (pos 336) (days_before_month month)
+pub twelve_months : (month : ℤ) → LiesWithin (pos 1) (pos 12) month
+    → LiesWithin (pos 0) (pos 336) (days_before_month month)
 twelve_months month h = record { from = grind (arith, ints, h.from, h.to); to = grind (arith, ints, h.from, h.to) }
 
 -- a day of the month is one of at most 31
-left_early : (number : ℤ) → number ≤ℤ pos 186 → LiesWithin (pos 1) (pos 31) (number -ℤ days_before_month (quotient_up number 31))
+left_early : (number : ℤ) → number ≤ℤ pos 186
+    → LiesWithin (pos 1) (pos 31) (number -ℤ days_before_month (quotient_up number 31))
 left_early number h =
     let f = floor_quotient_is (neg_ℤ number) 30 in
     record { from = grind (arith, ints, f.not_above, f.close); to = grind (arith, ints, f.not_above, f.close) }
 
-left_late : (number : ℤ) → pos 187 ≤ℤ number → LiesWithin (pos 1) (pos 31) (number -ℤ days_before_month (quotient_up (number -ℤ pos 6) 30))
+left_late : (number : ℤ) → pos 187 ≤ℤ number
+    → LiesWithin (pos 1) (pos 31) (number -ℤ days_before_month (quotient_up (number -ℤ pos 6) 30))
 left_late number h =
     let f = floor_quotient_is (neg_ℤ (number -ℤ pos 6)) 29 in
     record { from = grind (arith, ints, f.not_above, f.close); to = grind (arith, ints, f.not_above, f.close) }
 
 left_as : (number : ℤ) (b : Bool) → int_le number (pos 186) ≡ b
-    → LiesWithin (pos 1) (pos 31) (number -ℤ days_before_month (if b then quotient_up number 31 else quotient_up (number -ℤ pos 6) 30))
+    → LiesWithin (pos 1) (pos 31)
+    (number -ℤ days_before_month (if b then quotient_up number 31 else quotient_up (number -ℤ pos 6) 30))
 left_as number true e = left_early number (grind (arith, ints))
 left_as number false e = left_late number (grind (arith, ints))
 

@@ -8,9 +8,12 @@ use Rattle.book_model.specs.declared.fact.Place.{Place}
 use Rattle.book_model.specs.declared.location_tables.TheConstants.{TEHRAN}
 use Rattle.book_model.specs.sky.Correction.{rounded_of}
 use Rattle.book_model.specs.numbers.Expressions.{Expression}
-use Rattle.book_model.specs.sky.Horizon.{declination_of, offset_of, is_out_of_reach, if_reached, reached_offset_of, or_at_edge, near_offset_of, approximation_on, approximation_of, has_settled_of, settled_of, depression_of, dusk_of, sunset_of}
+use Rattle.book_model.specs.sky.Horizon.{declination_of, offset_of, is_out_of_reach, if_reached, reached_offset_of}
+use Rattle.book_model.specs.sky.Horizon.{or_at_edge, near_offset_of, approximation_on, approximation_of, has_settled_of}
+use Rattle.book_model.specs.sky.Horizon.{settled_of, depression_of, dusk_of, sunset_of}
 use Rattle.book_model.specs.sky.Kinds.{bahai_year_of, sunset_in_minutes_of}
-use Rattle.book_model.specs.programs.Programs.{answer, AtMost, answer_at_most, void_at_most, cell_at_most, compare_at_most}
+use Rattle.book_model.specs.programs.Programs.{answer, AtMost, answer_at_most, void_at_most, cell_at_most}
+use Rattle.book_model.specs.programs.Programs.{compare_at_most}
 use Rattle.book_model.specs.sky.Sun.{obliquity_of}
 use Rattle.book_model.proofs.Estimates.{from_apparent_few}
 use Rattle.book_model.proofs.FactRuns.{centuries_few, sun_few}
@@ -24,7 +27,8 @@ obliquity_few c = answer_at_most
 
 declination_few : (x : Expression) → AtMost 3 (declination_of x)
 unfolding declination_of
-declination_few x = at_most_bind 1 2 (centuries_few x) (λ c. at_most_bind 0 2 (obliquity_few c) (λ o. at_most_bind 2 0 (sun_few x) (λ s. answer_at_most)))
+declination_few x = at_most_bind 1 2 (centuries_few x)
+    (λ c. at_most_bind 0 2 (obliquity_few c) (λ o. at_most_bind 2 0 (sun_few x) (λ s. answer_at_most)))
 
 offset_few : (p : Location) (a x : Expression) → AtMost 3 (offset_of p a x)
 unfolding offset_of
@@ -43,7 +47,8 @@ reached_few : (p : Location) (a x : Expression) → AtMost 4 (reached_offset_of 
 unfolding reached_offset_of
 reached_few p a x = at_most_bind 3 1 (offset_few p a x) (λ s. at_most_bind 1 0 (out_few s) (if_few s))
 
-edge_few : (p : Location) (k : Twilight) (a : Expression) (d : ℤ) (s : Expression) (out : Bool) → AtMost 4 (or_at_edge p k a d s out)
+edge_few : (p : Location) (k : Twilight) (a : Expression) (d : ℤ) (s : Expression) (out : Bool)
+    → AtMost 4 (or_at_edge p k a d s out)
 unfolding or_at_edge
 edge_few p k a d s true = reached_few p a _
 edge_few p k a d s false = answer_at_most
@@ -54,13 +59,15 @@ near_few p k a d x = at_most_bind 3 5 (offset_few p a x) (λ s. at_most_bind 1 4
 
 approximation_few : (p : Location) (k : Twilight) (a x : Expression) → AtMost 10 (approximation_of p k a x)
 unfolding approximation_of approximation_on
-approximation_few p k a x = at_most_bind 1 9 (cell_at_most (λ q. answer_at_most)) (λ d. at_most_bind 8 1 (near_few p k a d x) (λ s. from_apparent_few _ _))
+approximation_few p k a x = at_most_bind 1 9 (cell_at_most (λ q. answer_at_most))
+    (λ d. at_most_bind 8 1 (near_few p k a d x) (λ s. from_apparent_few _ _))
 
 settles_few : (x y : Expression) → AtMost 1 (has_settled_of x y)
 unfolding has_settled_of
 settles_few x y = compare_at_most (λ t. answer_at_most)
 
-pub settled_few : (more : ℕ) (p : Location) (k : Twilight) (a x : Expression) → AtMost (more * 11) (settled_of more p k a x)
+pub settled_few : (more : ℕ) (p : Location) (k : Twilight) (a x : Expression)
+    → AtMost (more * 11) (settled_of more p k a x)
 unfolding settled_of
 settled_few zero p k a x = void_at_most
 settled_few (suc more) p k a x =
@@ -82,4 +89,5 @@ bahai_year_few d = season_day_few 132 (sunset_of TEHRAN) SPRING (sunset_few TEHR
 
 pub sunset_in_minutes_few : (place : Place) (p : Location) (d : ℤ) → AtMost 99999 (sunset_in_minutes_of place p d)
 unfolding sunset_in_minutes_of rounded_of
-sunset_in_minutes_few place p d = at_most_more 133 99999 (omega arith) (at_most_bind 132 1 (sunset_few p d) (λ x. cell_at_most (λ q. answer_at_most)))
+sunset_in_minutes_few place p d = at_most_more 133 99999 (omega arith)
+    (at_most_bind 132 1 (sunset_few p d) (λ x. cell_at_most (λ q. answer_at_most)))

@@ -32,7 +32,8 @@ unfolding plus
 whole_after n = record { cross = omega (arith, ints) }
 
 -- from where on a number lies, by its difference with one from -1 on
-pub from_difference : (a d : Fraction) (n : ℤ) → whole n ≤F plus a (opposite d) → whole (negsuc 0) ≤F d → whole (n -ℤ pos 1) ≤F a
+pub from_difference : (a d : Fraction) (n : ℤ) → whole n ≤F plus a (opposite d) → whole (negsuc 0) ≤F d
+    → whole (n -ℤ pos 1) ≤F a
 from_difference a d n h k = le_trans _ _ _ (whole_before n) (le_trans _ _ _ (plus_mono _ _ _ _ h k)
     (le_of_same (same_by (a ∷ d ∷ []) (at 0 ⊖ at 1 ⊕ at 1) (at 0) refl)))
 
@@ -41,7 +42,8 @@ to_difference : (b c : Fraction) (n : ℤ) → plus b (opposite c) ≤F whole n 
 to_difference b c n h k = le_trans _ _ _ (le_of_same (same_by (b ∷ c ∷ []) (at 0) (at 0 ⊖ at 1 ⊕ at 1) refl))
     (le_trans _ _ _ (plus_mono _ _ _ _ h k) (whole_after n))
 
-dated_by : (v m : ℕ) (i a j u : Interval) → sum i (negative a) ⊆ u → IsProper a → a ⊆ j → IsAbout (2 ^ 32) m j → IsMoment v u → IsInTable u → IsNearTable 1 i
+dated_by : (v m : ℕ) (i a j u : Interval) → sum i (negative a) ⊆ u → IsProper a → a ⊆ j → IsAbout (2 ^ 32) m j
+    → IsMoment v u → IsInTable u → IsNearTable 1 i
 unfolding sum negative IsNarrow
 dated_by v m everything a j u s o n k h t = tt
 dated_by v m (between p q) a j everything s o n k h t = absurd h.kept
@@ -57,11 +59,13 @@ dated_by v m (between p q) (between c d) (between e f) (between x y) s o n k h t
 unfoldable pub moment_world : (i : Interval) → IsProper i → World
 moment_world i p = record { depth = 40; arguments = λ k. i; proper = λ k. p }
 
-pub within_moment : {E : Type 0} (shown : E → Interval) (p : (e : E) → IsProper (shown e)) (e : E) → Within shown (moment_world (shown e) (p e)) (argument 0) e
+pub within_moment : {E : Type 0} (shown : E → Interval) (p : (e : E) → IsProper (shown e)) (e : E)
+    → Within shown (moment_world (shown e) (p e)) (argument 0) e
 unfolding Lies value moment_world
 within_moment shown p e = record { deep = omega arith; inside = within_refl _ }
 
-pub mean_dated : {E : Type 0} (shown : E → Interval) (p : (e : E) → IsProper (shown e)) (n v : ℕ) (l : Frac) (t a u : E) → n ≡ 56 → IsNarrowPlace l
+pub mean_dated : {E : Type 0} (shown : E → Interval) (p : (e : E) → IsProper (shown e)) (n v : ℕ) (l : Frac) (t a u : E)
+    → n ≡ 56 → IsNarrowPlace l
     → ((r : Reach) → Narrow shown (limits_of n) r (ahead_of (fraction_of l)) a)
     → ((w : World) → DEPTH ≤ w.depth → Within shown w (ahead_of (fraction_of l)) a)
     → ((w : World) (x : Expression) → Within shown w x t → Within shown w (subtract x (ahead_of (fraction_of l))) u)
@@ -72,5 +76,6 @@ mean_dated shown p n v l t a u e place f g h m i =
     let d = within_moment shown p t in
     let x = h w (argument 0) d in
     let y = g w d.deep in
-    dated_by v (2 ^ 10) (shown t) (value w (ahead_of (fraction_of l))) (shown a) (shown u) x.inside (value_proper w (ahead_of (fraction_of l))) y.inside
+    dated_by v (2 ^ 10) (shown t) (value w (ahead_of (fraction_of l))) (shown a) (shown u) x.inside
+    (value_proper w (ahead_of (fraction_of l))) y.inside
     (ahead_within shown n l a e place f) m i

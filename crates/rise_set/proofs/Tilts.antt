@@ -15,14 +15,17 @@ use Rattle.rise_set.specs.Altitudes.{IsTilt}
 use Rattle.sun_core.proofs.Worlds.{within_first}
 use Rattle.sun_core.specs.Widths.{IsObliquity}
 
-pub tilt_measures : {E : Type 0} (shown : E → Interval) (v : ℕ) (r : Result E Fail) → v ≤ 2 ^ 33 → Measures (λ o. IsObliquity (v / 36525 + 2 ^ 12) (shown o)) r
+pub tilt_measures : {E : Type 0} (shown : E → Interval) (v : ℕ) (r : Result E Fail) → v ≤ 2 ^ 33
+    → Measures (λ o. IsObliquity (v / 36525 + 2 ^ 12) (shown o)) r
     → Measures (λ o. IsTilt (shown o)) r
-tilt_measures shown v (Ok o) b h = looser _ _ _ _ ((v / 36525 + 2 ^ 12) / 64 + 2 ^ 12) (2 ^ 13) (shown o) (omega (arith, ints)) (omega (arith, ints))
+tilt_measures shown v (Ok o) b h = looser _ _ _ _ ((v / 36525 + 2 ^ 12) / 64 + 2 ^ 12) (2 ^ 13) (shown o)
+    (omega (arith, ints)) (omega (arith, ints))
     (omega (arith, b)) h
 tilt_measures shown v (Err f) b h = h
 
 -- ---- what makes no test never fails
-pub no_failure : {A T : Type 0} {R : A → T → Type 0} {v : A} {b a : ℕ} {f : Fail} → Reports R (answered v) b a (Err f) → ⊥
+pub no_failure : {A T : Type 0} {R : A → T → Type 0} {v : A} {b a : ℕ} {f : Fail} → Reports R (answered v) b a (Err f)
+    → ⊥
 no_failure h = elim h [ ]
 
 obliquity_answers : {E : Type 0} (shown : E → Interval) (p : (e : E) → IsProper (shown e)) (c : E) (f : Fail) {b a : ℕ}
@@ -30,7 +33,8 @@ obliquity_answers : {E : Type 0} (shown : E → Interval) (p : (e : E) → IsPro
 unfolding obliquity_of run
 obliquity_answers shown p c f h = no_failure (h _ _ (within_first shown p c c)).reports
 
-pub obliquity_never : {E : Type 0} (shown : E → Interval) (p : (e : E) → IsProper (shown e)) (c : E) (P : Fail → Type 0) (r : Result E Fail) {b a : ℕ}
+pub obliquity_never : {E : Type 0} (shown : E → Interval) (p : (e : E) → IsProper (shown e)) (c : E) (P : Fail → Type 0)
+    (r : Result E Fail) {b a : ℕ}
     → ((w : World) (x : Expression) → Within shown w x c → Leads w (Within shown w) (obliquity_of x) b a r) → IfErr r P
 obliquity_never shown p c P (Ok v) h = tt
 obliquity_never shown p c P (Err f) h = absurd (obliquity_answers shown p c f h)

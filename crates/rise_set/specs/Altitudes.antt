@@ -1,4 +1,5 @@
--- How wide the altitude of the moon and what it is taken of are at the scale 2^-56, at a moment that is at most 9/8 of 2^-32 days wide.
+-- How wide the altitude of the moon and what it is taken of are at the scale 2^-56, at a moment that is at most 9/8 of
+-- 2^-32 days wide.
 use Rattle.std.specs.Prelude.{◌+◌, ◌*◌, ◌^◌, pos}
 use Rattle.book_model.specs.Interval.{Interval}
 use Rattle.book_model.specs.programs.Widths.{IsWithin, IsAbout, IsUpTo}

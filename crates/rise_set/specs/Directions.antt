@@ -12,7 +12,8 @@ pub record IsDirection {E : Type 0} (shown : E → Interval) (w : World) (x : Ex
   pub cosine : Within shown w (cosine_of x) d.cosine
 
 -- both keep the bound of their number
-pub record IsNarrowDirection {E : Type 0} (shown : E → Interval) (l : Limits) (r : Reach) (x : Expression) (d : Direction E) : Type 0 where
+pub record IsNarrowDirection {E : Type 0} (shown : E → Interval) (l : Limits) (r : Reach) (x : Expression)
+    (d : Direction E) : Type 0 where
   pub sine : Narrow shown l r (sine_of x) d.sine
   pub cosine : Narrow shown l r (cosine_of x) d.cosine
 

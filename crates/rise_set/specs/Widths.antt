@@ -34,11 +34,14 @@ IsDepression i = IsWithin (pos 0) (pos (46 * 2 ^ 32 / 10)) (2 ^ 24) i
 abbrev pub IsOffset : ℕ → Interval → Type 0
 IsOffset v i = IsAbout (2 ^ 31) v i
 
--- what is computed of a location: its longitude, its latitude from 0 to 36 degrees, and its refraction of at most 4 degrees are narrow
+-- what is computed of a location: its longitude, its latitude from 0 to 36 degrees, and its refraction of at most 4
+-- degrees are narrow
 pub record IsNarrowLocation (p : Location) : Type 0 where
   pub place : IsNarrowPlace p.longitude
-  pub latitude : implies (bound_of (limits_at 56) (λ k. unbounded) (constant (fraction_of p.latitude))) (bounded (pos 0) (pos (36 * 2 ^ 32)) 0 (2 ^ 8)) ≡ true
-  pub refraction : implies (bound_of (limits_at 56) (λ k. unbounded) (refraction_of p)) (bounded (pos 0) (pos (4 * 2 ^ 32)) 0 (2 ^ 23)) ≡ true
+  pub latitude : implies (bound_of (limits_at 56) (λ k. unbounded) (constant (fraction_of p.latitude)))
+      (bounded (pos 0) (pos (36 * 2 ^ 32)) 0 (2 ^ 8)) ≡ true
+  pub refraction : implies (bound_of (limits_at 56) (λ k. unbounded) (refraction_of p))
+      (bounded (pos 0) (pos (4 * 2 ^ 32)) 0 (2 ^ 23)) ≡ true
 
 -- the numbers of such a latitude and of a depression from 0 to 4.6 degrees
 pub record IsNarrowHorizon {E : Type 0} (shown : E → Interval) (h : Horizon E) : Type 0 where

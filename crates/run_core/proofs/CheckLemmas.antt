@@ -1,5 +1,6 @@
 -- Verdicts, one further.
-use Rattle.std.proofs.Common.{◌≡◌, ◌⊎◌, inl, inr, ℕ, suc, ℤ, ◌+◌, ◌<◌, ◌≤◌, ◌==◌, ◌&&◌, Bool, true, false, cond, List, [], ◌∷◌, ◌++◌, length, drop, filter, get_or, map, refl}
+use Rattle.std.proofs.Common.{◌≡◌, ◌⊎◌, inl, inr, ℕ, suc, ℤ, ◌+◌, ◌<◌, ◌≤◌, ◌==◌, ◌&&◌, Bool, true, false, cond, List}
+use Rattle.std.proofs.Common.{[], ◌∷◌, ◌++◌, length, drop, filter, get_or, map, refl}
 use Rattle.std.proofs.Common.{append_assoc, append-nil, arith}
 use Rattle.std.proofs.lemmas.Bool.Decides.{nat_tests}
 use Rattle.std.proofs.lemmas.Grind.{common_steps}
@@ -27,17 +28,20 @@ use Rattle.conversion.specs.declared.text.WriteStop.{WriteStop}
 use Rattle.conversion.specs.Writing.{Performs}
 use Rattle.run_core.specs.declared.check.Checked.{Checked}
 use Rattle.run_core.specs.declared.check.Checked.TheVariants.{AllYes, NotAll, BadText}
-use Rattle.run_core.specs.Checking.{verdict_text, verdicts_after, verdicts_of, verdicts_text, is_yes, is_no, is_skip, with_one, ChecksFile, Comes, RefusesText, TellsFail, CutsFail, bad_text, checked}
+use Rattle.run_core.specs.Checking.{verdict_text, verdicts_after, verdicts_of, verdicts_text, is_yes, is_no, is_skip}
+use Rattle.run_core.specs.Checking.{with_one, ChecksFile, Comes, RefusesText, TellsFail, CutsFail, bad_text, checked}
 
 -- what comes of one item more is added
-pub mapped_on : {X Y : Type 0} (f : X → Y) (ys now : List Y) (y : Y) (i : ℕ) (xs : List X) (d : X) (all : List Y) → i < length xs → y ≡ f (get_or xs i d)
+pub mapped_on : {X Y : Type 0} (f : X → Y) (ys now : List Y) (y : Y) (i : ℕ) (xs : List X) (d : X) (all : List Y)
+    → i < length xs → y ≡ f (get_or xs i d)
     → ys ++ map f (drop i xs) ≡ all → now ≡ ys ++ y ∷ [] → now ++ map f (drop (i + 1) xs) ≡ all
 mapped_on f ys now y i xs d all h is old added =
     let grouped : ys ++ (f (get_or xs i d) ∷ map f (drop (i + 1) xs)) ≡ all = rw (drop_more xs i d h) at old in
     rw (added, append_assoc, is) grouped
 
 -- where no item is left, all is there
-pub mapped_whole : {X Y : Type 0} (f : X → Y) (ys : List Y) (i : ℕ) (xs : List X) (all : List Y) → length xs ≤ i → ys ++ map f (drop i xs) ≡ all → ys ≡ all
+pub mapped_whole : {X Y : Type 0} (f : X → Y) (ys : List Y) (i : ℕ) (xs : List X) (all : List Y) → length xs ≤ i
+    → ys ++ map f (drop i xs) ≡ all → ys ≡ all
 mapped_whole f ys i xs all h old =
     let over : drop i xs ≡ [] = grind (arith, common_steps) in
     rw append-nil at (rw over at old)
@@ -47,7 +51,8 @@ abbrev pub verdicts_from : CertFile → List Answer → ℕ → List Verdict
 verdicts_from f answers i = map (verdict_of f.version f.facts answers) (drop i f.lines)
 
 -- that of the next line is the first of them
-pub next_verdict : (f : CertFile) (answers : List Answer) (i : ℕ) (v : Verdict) → i < length f.lines → v ≡ verdict_of f.version f.facts answers (line_at f i)
+pub next_verdict : (f : CertFile) (answers : List Answer) (i : ℕ) (v : Verdict) → i < length f.lines
+    → v ≡ verdict_of f.version f.facts answers (line_at f i)
     → verdicts_from f answers i ≡ v ∷ verdicts_from f answers (i + 1)
 next_verdict f answers i v h is = rw (drop_more f.lines i (Refused 0) h, is) refl
 
@@ -62,15 +67,20 @@ verdicts_split : (i : ℕ) (v : Verdict) (rest : List Verdict) (counts : List �
 verdicts_split i v rest counts = append_assoc (verdict_text (i + 1) v) (verdicts_after (i + 1) rest) counts
 
 -- one more verdict is put
-pub verdicts_on : (a b c : Option (List ℕ)) (t w w' : List ℕ) (i : ℕ) (left rest : List Verdict) (v : Verdict) (counts : List ℕ) → left ≡ v ∷ rest
+pub verdicts_on : (a b c : Option (List ℕ)) (t w w' : List ℕ) (i : ℕ) (left rest : List Verdict) (v : Verdict)
+    (counts : List ℕ) → left ≡ v ∷ rest
     → Wrote a b t (w ++ (verdicts_after i left ++ counts)) → Wrote b c (w ++ verdict_text (i + 1) v) w'
     → Wrote a c t (w' ++ (verdicts_after (i + 1) rest ++ counts))
-verdicts_on a b c t w w' i left rest v counts is old new = buffered_on a b c t w _ w' _ (rw (is, verdicts_split i v rest counts) at old) new
+verdicts_on a b c t w w' i left rest v counts is old new = buffered_on a b c t w _ w' _
+    (rw (is, verdicts_split i v rest counts) at old) new
 
 -- a prefix of one more verdict is put
-pub verdicts_prefix : (a b c : Option (List ℕ)) (t w : List ℕ) (i : ℕ) (left rest : List Verdict) (v : Verdict) (counts : List ℕ) → left ≡ v ∷ rest
-    → Wrote a b t (w ++ (verdicts_after i left ++ counts)) → AppendsPrefix b c (w ++ verdict_text (i + 1) v) → AppendsPrefix a c t
-verdicts_prefix a b c t w i left rest v counts is old new = buffered_prefix a b c t w _ _ (rw (is, verdicts_split i v rest counts) at old) new
+pub verdicts_prefix : (a b c : Option (List ℕ)) (t w : List ℕ) (i : ℕ) (left rest : List Verdict) (v : Verdict)
+    (counts : List ℕ) → left ≡ v ∷ rest
+    → Wrote a b t (w ++ (verdicts_after i left ++ counts)) → AppendsPrefix b c (w ++ verdict_text (i + 1) v)
+    → AppendsPrefix a c t
+verdicts_prefix a b c t w i left rest v counts is old new = buffered_prefix a b c t w _ _
+    (rw (is, verdicts_split i v rest counts) at old) new
 
 -- after the last verdict the counts are left
 pub verdicts_end : (a b : Option (List ℕ)) (t w : List ℕ) (i : ℕ) (left : List Verdict) (counts : List ℕ) → left ≡ []
@@ -78,11 +88,13 @@ pub verdicts_end : (a b : Option (List ℕ)) (t w : List ℕ) (i : ℕ) (left : 
 verdicts_end a b t w i left counts none old = rw none at old
 
 -- one more verdict is counted, or isn't
-pub counted : (p : Verdict → Bool) (n now whole : ℕ) (left rest : List Verdict) (v : Verdict) → left ≡ v ∷ rest → n + length (filter p left) ≡ whole
+pub counted : (p : Verdict → Bool) (n now whole : ℕ) (left rest : List Verdict) (v : Verdict) → left ≡ v ∷ rest
+    → n + length (filter p left) ≡ whole
     → now ≡ with_one (p v) n → now + length (filter p rest) ≡ whole
 counted p n now whole left rest v is old added = step (p v) (rw is at old) added
   where
-    step : (t : Bool) → n + length (cond t (v ∷ filter p rest) (filter p rest)) ≡ whole → now ≡ with_one t n → now + length (filter p rest) ≡ whole
+    step : (t : Bool) → n + length (cond t (v ∷ filter p rest) (filter p rest)) ≡ whole → now ≡ with_one t n
+        → now + length (filter p rest) ≡ whole
     step true h k = omega arith
     step false h k = omega arith
 
@@ -92,14 +104,16 @@ one_more true n now i h k = omega arith
 one_more false n now i h k = omega arith
 
 -- where no verdict is left, all are counted
-pub all_counted : (p : Verdict → Bool) (n whole : ℕ) (left : List Verdict) → left ≡ [] → n + length (filter p left) ≡ whole → n ≡ whole
+pub all_counted : (p : Verdict → Bool) (n whole : ℕ) (left : List Verdict) → left ≡ []
+    → n + length (filter p left) ≡ whole → n ≡ whole
 all_counted p n whole left none h = let k : n + length (filter p []) ≡ whole = rw none at h in omega arith
 
 -- all are yes where none is a no or a skip
 some : (n : ℕ) → (suc n == 0) ≡ false
 some n = grind (arith, nat_tests)
 
-pub all_yes : (vs : List Verdict) → ((length (filter is_no vs) == 0) && (length (filter is_skip vs) == 0)) ≡ list_all is_yes vs
+pub all_yes : (vs : List Verdict) → ((length (filter is_no vs) == 0) && (length (filter is_skip vs) == 0)) ≡ list_all
+    is_yes vs
 all_yes [] = refl
 all_yes (Yes ∷ vs) = all_yes vs
 all_yes (No reason ∷ vs) = rw (some (length (filter is_no vs))) refl
@@ -114,14 +128,16 @@ pub prefix_written : (a b : Option (List ℕ)) (t r : List ℕ) → Wrote a b t 
 prefix_written a b t r w = record { rest = r; wrote = w }
 
 -- answers that are right for the facts of pairs, in order
-pub right_answers : (es : List (Fact × ℤ)) (answers : List Answer) → AllZip IsRightAnswer (map (λ pair. pair.0) es) answers → AreRightAnswers es answers
+pub right_answers : (es : List (Fact × ℤ)) (answers : List Answer) → AllZip IsRightAnswer (map (λ pair. pair.0) es)
+    answers → AreRightAnswers es answers
 right_answers [] [] h = tt
 right_answers [] (a ∷ rest) h = absurd h
 right_answers (e ∷ es) [] h = absurd h
 right_answers (e ∷ es) (a ∷ rest) h = (h.0, right_answers es rest h.1)
 
 -- the verdicts of the lines of a file are written, and what a line with a yes shows is certified
-pub checks_file : (old new : Option (List ℕ)) (f : CertFile) (answers : List Answer) (all : Bool) → IsCheckable f → AreRightAnswers f.facts answers
+pub checks_file : (old new : Option (List ℕ)) (f : CertFile) (answers : List Answer) (all : Bool) → IsCheckable f
+    → AreRightAnswers f.facts answers
     → Appends old new (verdicts_text (verdicts_of f answers))
     → all ≡ list_all is_yes (verdicts_of f answers) → ChecksFile old new f all
 checks_file old new f answers all checkable right written all_are = record {
@@ -129,22 +145,26 @@ checks_file old new f answers all checkable right written all_are = record {
   right = right;
   written = written;
   yes = all_are;
-  certified = λ i h e. yes_line f.version f.facts answers (line_at f i) checkable.distinct (checkable.numbers i) right e;
+  certified = λ i h e. yes_line f.version f.facts answers (line_at f i) checkable.distinct (checkable.numbers i) right
+      e;
 }
 
 -- what comes of a file that is checked
-pub checks_come : (old new : Option (List ℕ)) (input : List ℕ) (f : CertFile) (all : Bool) → grammar_of input ≡ file f → ChecksFile old new f all
+pub checks_come : (old new : Option (List ℕ)) (input : List ℕ) (f : CertFile) (all : Bool) → grammar_of input ≡ file f
+    → ChecksFile old new f all
     → Comes old new input (checked all)
 checks_come old new input f true h k = record { of = f; read = h; checks = k }
 checks_come old new input f false h k = record { of = f; read = h; checks = k }
 
 -- an early return is the same whatever would have been answered
-same_stop : {T U : Type 0} (stop other : WriteStop) → IsErrOf {T = T} (Err stop) other → IsErrOf {T = U} (Err stop) other
+same_stop : {T U : Type 0} (stop other : WriteStop) → IsErrOf {T = T} (Err stop) other
+    → IsErrOf {T = U} (Err stop) other
 same_stop stop other h = let same : stop ≡ other = cc in rw same refl
 
 -- ---- what is the same of a file that is checked and of one that is upgraded
 -- a call stopped within another, of which there is more to tell
-pub stopped_within : {S T U : Type 0} {written : S → Option (List ℕ)} {faults : S → ℕ} {old new : S} {done : T → Type 0} {finished : U → Type 0}
+pub stopped_within : {S T U : Type 0} {written : S → Option (List ℕ)} {faults : S → ℕ} {old new : S} {done : T → Type 0}
+    {finished : U → Type 0}
     {prefix cut : Type 0} (stop : WriteStop) → (prefix → cut) → Performs written faults old new done prefix (Err stop)
     → Performs written faults old new finished cut (Err stop)
 stopped_within stop more h = record {
@@ -156,7 +176,8 @@ stopped_within stop more h = record {
 }
 
 -- the line stands there that says why bytes aren't such a file
-told : (fail : ReadFail) (reading : Reading) (old new : Option (List ℕ)) (is : Checked) → Answers (Err fail) reading → TellsFail fail old new is
+told : (fail : ReadFail) (reading : Reading) (old new : Option (List ℕ)) (is : Checked) → Answers (Err fail) reading
+    → TellsFail fail old new is
     → (is ≡ BadText) × RefusesText reading old new
 told (Bad line rule) reading old new AllYes h k = absurd k
 told (Bad line rule) reading old new NotAll h k = absurd k
@@ -164,21 +185,30 @@ told (Bad line rule) reading old new BadText h k = (refl, record { line = line; 
 told Memory reading old new is h k = absurd k
 
 -- or a prefix of it
-told_prefix : (fail : ReadFail) (reading : Reading) (old new : Option (List ℕ)) {cut : Type 0} → Answers (Err fail) reading
-    → ((line rule : ℕ) → reading ≡ bad line rule → AppendsPrefix old new (bad_text line rule) → cut) → CutsFail fail old new → cut
+told_prefix : (fail : ReadFail) (reading : Reading) (old new : Option (List ℕ)) {cut : Type 0}
+    → Answers (Err fail) reading
+    → ((line rule : ℕ) → reading ≡ bad line rule → AppendsPrefix old new (bad_text line rule) → cut)
+    → CutsFail fail old new → cut
 told_prefix (Bad line rule) reading old new h prefix k = prefix line rule h k
 told_prefix Memory reading old new h prefix k = absurd k
 
 -- and that is what comes of the bytes
-pub refused : {S : Type 0} {written : S → Option (List ℕ)} {faults : S → ℕ} {old new : S} {comes : Checked → Type 0} {cut : Type 0} {r : Result Checked WriteStop}
-    (fail : ReadFail) (reading : Reading) → Answers (Err fail) reading → (RefusesText reading (written old) (written new) → comes BadText)
+pub refused : {S : Type 0} {written : S → Option (List ℕ)} {faults : S → ℕ} {old new : S} {comes : Checked → Type 0}
+    {cut : Type 0} {r : Result Checked WriteStop}
+    (fail : ReadFail) (reading : Reading) → Answers (Err fail) reading
+    → (RefusesText reading (written old) (written new) → comes BadText)
     → ((line rule : ℕ) → reading ≡ bad line rule → AppendsPrefix (written old) (written new) (bad_text line rule) → cut)
-    → Performs written faults old new (TellsFail fail (written old) (written new)) (CutsFail fail (written old) (written new)) r
+    → Performs written faults old new (TellsFail fail (written old) (written new))
+    (CutsFail fail (written old) (written new)) r
     → Performs written faults old new comes cut r
 refused {written = written} {old = old} {new = new} {comes = comes} {r = r} fail reading h refuses prefix k = record {
   ok = IfOk-weaker r _ _ (λ is t. let bad_one = told fail reading _ _ is h t in rw bad_one.0 (refuses bad_one.1)) k.ok;
   fault = λ e. told_prefix fail reading _ _ h prefix (k.fault e);
-  memory = λ e. elim (k.memory e) [ inl kept ↦ inl kept | inr told_so ↦ inr (told_prefix fail reading _ _ h prefix told_so) ];
+  memory = λ e. elim (k.memory e) [
+    | inl kept ↦ inl kept
+    | inr told_so ↦ inr
+        (told_prefix fail reading _ _ h prefix told_so)
+  ];
   cause = k.cause;
   later = k.later;
 }

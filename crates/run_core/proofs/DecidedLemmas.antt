@@ -7,14 +7,17 @@ use Rattle.book_model.specs.declared.request.Request.{Request}
 use Rattle.book_model.specs.declared.request.Rule.{Rule}
 use Rattle.book_model.specs.declared.site.Site.{Site}
 use Rattle.book_model.specs.declared.version.TheConstants.{WRITTEN}
-use Rattle.book_model.specs.lines.Outcomes.{LineOutcome, refused, resolved, undecided, void, IsRightForRow, RowAsks, is_resolved}
+use Rattle.book_model.specs.lines.Outcomes.{LineOutcome, refused, resolved, undecided, void, IsRightForRow, RowAsks}
+use Rattle.book_model.specs.lines.Outcomes.{is_resolved}
 use Rattle.book_model.specs.lines.Requests.{request_of}
 use Rattle.book_model.specs.sky.Facts.{IsNear, IsVoidAt}
 use Rattle.run_core.specs.Laws.{HasResultOrRule, IsRefusal}
 
--- an outcome that is right for a decided line is a result or a refusal, by cases of what the line asks and of the outcome
+-- an outcome that is right for a decided line is a result or a refusal, by cases of what the line asks and of the
+-- outcome
 by_row : (line : List ℕ) (row : Result Request Rule) (o : LineOutcome) → request_of WRITTEN line ≡ row
-    → ((f : Fact) (u : Undecided) → RowAsks WRITTEN row f → IsNear f u → ⊥) → ((f : Fact) (s : Site) → RowAsks WRITTEN row f → IsVoidAt f s → ⊥)
+    → ((f : Fact) (u : Undecided) → RowAsks WRITTEN row f → IsNear f u → ⊥)
+    → ((f : Fact) (s : Site) → RowAsks WRITTEN row f → IsVoidAt f s → ⊥)
     → IsRightForRow WRITTEN row o → (is_resolved o ≡ true) ⊎ IsRefusal line o
 by_row line (Err rule) o asked near nowhere h = inr (record { rule = rule; broken = asked; is = h })
 by_row line (Ok r) (refused rule) asked near nowhere h = absurd h

@@ -7,4 +7,5 @@ use Rattle.run_core.specs.Laws.{HasOneCount}
 use Rattle.conversion.specs.Counting.{sample_text}
 
 pub one_count : (count seed : ℕ) → HasOneCount count seed
-one_count count seed = λ os ps h k a b. ap (sample_text count seed) (one_list WRITTEN (sample_lines count seed) os ps h k a b)
+one_count count seed = λ os ps h k a b. ap (sample_text count seed)
+    (one_list WRITTEN (sample_lines count seed) os ps h k a b)

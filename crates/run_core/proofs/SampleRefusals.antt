@@ -16,9 +16,11 @@ use Rattle.book_model.specs.declared.words.Meaning.TheVariants.{Date, Value}
 use Rattle.book_model.specs.declared.words.FromWord.TheVariants as from
 use Rattle.book_model.specs.declared.words.ToWord.{ToWord}
 use Rattle.book_model.specs.calendars.Dates.{one_field, date_on}
-use Rattle.book_model.specs.calendars.Inquiries.{Inquiry, done, ask, and_then, found, found_at, finding, finding_after, with_entry}
+use Rattle.book_model.specs.calendars.Inquiries.{Inquiry, done, ask, and_then, found, found_at, finding, finding_after}
+use Rattle.book_model.specs.calendars.Inquiries.{with_entry}
 use Rattle.book_model.specs.lines.LineRules.{rule_of, result_of_day, result_within, shown_on, fact_on}
-use Rattle.book_model.specs.lines.Outcomes.{LineOutcome, refused, resolved, undecided, void, IsRightFor, IsRightForRow, AreRight, is_shown}
+use Rattle.book_model.specs.lines.Outcomes.{LineOutcome, refused, resolved, undecided, void, IsRightFor, IsRightForRow}
+use Rattle.book_model.specs.lines.Outcomes.{AreRight, is_shown}
 use Rattle.book_model.specs.lines.Requests.{AreSpelled, IsSpelled, fields_with, request_of}
 use Rattle.book_model.specs.lines.Text.{line_text}
 use Rattle.book_model.specs.lines.Words.{shown_by}
@@ -37,35 +39,45 @@ shown_found : (n : ℕ) (seen : List (Fact × ℤ)) (i : Inquiry Fields) (to : T
     → finding_after n seen (and_then i (λ fields. done (Shown to fields))) ≡ found x es → is_shown x ≡ true
 unfolding finding_after and_then
 shown_found n seen (done fields) to x es h = let e : Shown to fields ≡ x = cc in rw (← e) refl
-shown_found n seen (ask f next) to x es h = by (outcome (run_of n f)) (λ v k. shown_found n (with_entry seen f v) (next v) to x es k) h
+shown_found n seen (ask f next) to x es h = by (outcome (run_of n f))
+    (λ v k. shown_found n (with_entry seen f v) (next v) to x es k) h
   where
-    by : (o : Outcome ℤ) → ((v : ℤ) → finding_after n (with_entry seen f v) (and_then (next v) (λ fields. done (Shown to fields))) ≡ found x es → is_shown x
+    by : (o : Outcome ℤ)
+        → ((v : ℤ) → finding_after n (with_entry seen f v) (and_then (next v) (λ fields. done (Shown to fields)))
+        ≡ found x es → is_shown x
         ≡ true)
-        → found_at f o (λ v. finding_after n (with_entry seen f v) (and_then (next v) (λ fields. done (Shown to fields)))) ≡ found x es → is_shown x ≡ true
+        → found_at f o
+        (λ v. finding_after n (with_entry seen f v) (and_then (next v) (λ fields. done (Shown to fields)))) ≡ found x
+        es → is_shown x ≡ true
     by (valued v) rest k = rest v k
     by (void_at s) rest k = absurd (cc)
     by (undecided_test_at s) rest k = absurd (cc)
 
-value_found : (n : ℕ) (f : Fact) (to : ToWord) (x : Resolved) (es : List (Fact × ℤ)) → finding n (ask f (λ v. done (Shown to (one_field v)))) ≡ found x es
+value_found : (n : ℕ) (f : Fact) (to : ToWord) (x : Resolved) (es : List (Fact × ℤ))
+    → finding n (ask f (λ v. done (Shown to (one_field v)))) ≡ found x es
     → is_shown x ≡ true
 unfolding finding_after
 value_found n f to x es h = by (outcome (run_of n f)) h
   where
-    by : (o : Outcome ℤ) → found_at f o (λ v. found (Shown to (one_field v)) (with_entry [] f v)) ≡ found x es → is_shown x ≡ true
+    by : (o : Outcome ℤ) → found_at f o (λ v. found (Shown to (one_field v)) (with_entry [] f v)) ≡ found x es
+        → is_shown x ≡ true
     by (valued v) k = let e : Shown to (one_field v) ≡ x = cc in rw (← e) refl
     by (void_at s) k = absurd (cc)
     by (undecided_test_at s) k = absurd (cc)
 
-result_shown : (n : ℕ) (to : ToWord) (s : Meaning) (day : ℤ) (x : Resolved) (es : List (Fact × ℤ)) → finding n (shown_on to s day) ≡ found x es
+result_shown : (n : ℕ) (to : ToWord) (s : Meaning) (day : ℤ) (x : Resolved) (es : List (Fact × ℤ))
+    → finding n (shown_on to s day) ≡ found x es
     → is_shown x ≡ true
 result_shown n to (Date c) day x es h = shown_found n [] (date_on c day) to x es h
 result_shown n to (Value kind place) day x es h = value_found n (fact_on kind place day) to x es h
 
-day_rule : (n : ℕ) (to : ToWord) → IsSampleDay n → rule_of WRITTEN (day_request n to) ≡ shown_on to (shown_by to) (pos n)
+day_rule : (n : ℕ) (to : ToWord) → IsSampleDay n → rule_of WRITTEN (day_request n to) ≡ shown_on to (shown_by to)
+    (pos n)
 unfolding rule_of result_of_day result_within and_then
 day_rule n to day = rw (in_reach n to day) refl
 
-request_not_refused : (n : ℕ) (to : ToWord) (o : LineOutcome) → IsSampleDay n → IsRightForRow WRITTEN (Ok (day_request n to)) o → is_refused o ≡ false
+request_not_refused : (n : ℕ) (to : ToWord) (o : LineOutcome) → IsSampleDay n
+    → IsRightForRow WRITTEN (Ok (day_request n to)) o → is_refused o ≡ false
 request_not_refused n to (refused rule) day h = absurd h
 request_not_refused n to (undecided f u) day h = refl
 request_not_refused n to (void f s) day h = refl
@@ -75,11 +87,14 @@ request_not_refused n to (resolved x es) day h =
     rw shown refl
 
 -- the line of a state asks its request
-sample_again : (state index : ℕ) → IsSpelled (sample_line_of state index) → request_of WRITTEN (line_text (sample_line_of state index))
+sample_again : (state index : ℕ) → IsSpelled (sample_line_of state index)
+    → request_of WRITTEN (line_text (sample_line_of state index))
     ≡ Ok (sample_line_of state index)
-sample_again state index spelled = text_is_read WRITTEN (sample_line_of state index) spelled ∙ sample_checked state index
+sample_again state index spelled = text_is_read WRITTEN (sample_line_of state index) spelled ∙ sample_checked
+    state index
 
-request_of_state : (state index : ℕ) (o : LineOutcome) → IsRightForRow WRITTEN (Ok (sample_line_of state index)) o → is_refused o ≡ false
+request_of_state : (state index : ℕ) (o : LineOutcome) → IsRightForRow WRITTEN (Ok (sample_line_of state index)) o
+    → is_refused o ≡ false
 unfolding sample_line_of
 request_of_state state index o h = request_not_refused (day_by state) (asked_at index) o (sample_day state) h
 
@@ -93,7 +108,8 @@ none_refused zero state index [] spelled h = refl
 none_refused zero state index (o ∷ os) spelled h = absurd h
 none_refused (suc many) state index [] spelled h = absurd h
 none_refused (suc many) state index (o ∷ os) spelled h =
-    rw (sample_not_refused (state_after state) index o spelled.0 h.0) (none_refused many (state_after state) (index + 1) os spelled.1 h.1)
+    rw (sample_not_refused (state_after state) index o spelled.0 h.0)
+    (none_refused many (state_after state) (index + 1) os spelled.1 h.1)
 
 pub no_refusal : (count seed : ℕ) → HasNoRefusal count seed
 no_refusal count seed = λ os h. none_refused count seed 0 os (sample_spelled count seed) h

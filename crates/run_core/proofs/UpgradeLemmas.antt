@@ -27,7 +27,8 @@ older_ruled bytes f h = by (has_header WRITTEN (lines_of bytes)) h
     by false k = let well = grammar_well bytes f k in all_ruled f.lines well.ruled
 
 -- what comes of a file that is upgraded
-pub upgrade_comes : (old new : Option (List ℕ)) (input : List ℕ) (f : CertFile) (all : Bool) → upgradable input ≡ file f → Renewed old new f.lines all
+pub upgrade_comes : (old new : Option (List ℕ)) (input : List ℕ) (f : CertFile) (all : Bool) → upgradable input ≡ file f
+    → Renewed old new f.lines all
     → Becomes old new input (checked all)
 upgrade_comes old new input f true h k = record { of = f; read = h; renewed = k }
 upgrade_comes old new input f false h k = record { of = f; read = h; renewed = k }

@@ -1,5 +1,6 @@
 -- What is written where a certificate is checked.
-use Rattle.std.specs.Prelude.{◌≡◌, ℕ, ◌+◌, ◌<◌, Bool, true, false, List, [], ◌∷◌, ◌++◌, length, map, filter, codes, decimal}
+use Rattle.std.specs.Prelude.{◌≡◌, ℕ, ◌+◌, ◌<◌, Bool, true, false, List, [], ◌∷◌, ◌++◌, length, map, filter, codes}
+use Rattle.std.specs.Prelude.{decimal}
 use Rattle.std.specs.List.{concat, list_all}
 use Rattle.std.specs.declared.option.Option.{Option}
 use Rattle.std.specs.Io.KnownBytes.{Appends}
@@ -113,4 +114,5 @@ Comes old new input BadText = RefusesText (grammar_of input) old new
 -- a prefix of what is written for the bytes stands there
 pub data CheckCutShort (old new : Option (List ℕ)) (input : List ℕ) : Type 0 where
   cut_verdicts : (f : CertFile) → grammar_of input ≡ file f → CutsFile old new f → CheckCutShort old new input
-  cut_bad : (line rule : ℕ) → grammar_of input ≡ bad line rule → AppendsPrefix old new (bad_text line rule) → CheckCutShort old new input
+  cut_bad : (line rule : ℕ) → grammar_of input ≡ bad line rule → AppendsPrefix old new (bad_text line rule)
+      → CheckCutShort old new input

@@ -33,19 +33,22 @@ pub record IsRefusal (line : List ℕ) (o : LineOutcome) : Type 0 where
   pub broken : request_of WRITTEN line ≡ Err rule
   pub is : o ≡ refused rule
 
--- where no fact that the line asks is near or void, an outcome that is right for it is a result, a refusal that was found by
--- computing, or the refusal of the rule that the line breaks
+-- where no fact that the line asks is near or void, an outcome that is right for it is a result, a refusal that was
+-- found by computing, or the refusal of the rule that the line breaks
 abbrev pub HasResultOrRule : List ℕ → Type 0
-HasResultOrRule line = IsDecided line → (o : LineOutcome) → IsRightFor WRITTEN line o → (is_resolved o ≡ true) ⊎ IsRefusal line o
+HasResultOrRule line = IsDecided line → (o : LineOutcome) → IsRightFor WRITTEN line o → (is_resolved o ≡ true)
+    ⊎ IsRefusal line o
 
 -- two lines of counts of a sample, none of whose lines is undecided, are equal
 abbrev pub HasOneCount : (count seed : ℕ) → Type 0
-HasOneCount count seed = (os ps : List LineOutcome) → AreRight WRITTEN (sample_lines count seed) os → AreRight WRITTEN (sample_lines count seed) ps
+HasOneCount count seed = (os ps : List LineOutcome) → AreRight WRITTEN (sample_lines count seed) os
+    → AreRight WRITTEN (sample_lines count seed) ps
     → HasNoneUndecided os → HasNoneUndecided ps → sample_text count seed os ≡ sample_text count seed ps
 
 -- no line of a sample is refused, by itself or by computing
 abbrev pub HasNoRefusal : (count seed : ℕ) → Type 0
-HasNoRefusal count seed = (os : List LineOutcome) → AreRight WRITTEN (sample_lines count seed) os → length (filter is_refused os) ≡ 0
+HasNoRefusal count seed = (os : List LineOutcome) → AreRight WRITTEN (sample_lines count seed) os
+    → length (filter is_refused os) ≡ 0
 
 -- what an upgrade makes of a line with words isn't undecided; a line without words may be anything, since it is copied
 abbrev pub IsSettled : CertLine → LineOutcome → Type 0

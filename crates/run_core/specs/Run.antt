@@ -1,12 +1,14 @@
 -- How a run ends, and what it has done.
-use Rattle.std.specs.Prelude.{◌≡◌, ◌<◌, ◌≤◌, ℕ, Bool, true, false, List, [], codes, length, map, None, Some, Result, Ok, Err}
+use Rattle.std.specs.Prelude.{◌≡◌, ◌<◌, ◌≤◌, ℕ, Bool, true, false, List, [], codes, length, map, None, Some, Result, Ok}
+use Rattle.std.specs.Prelude.{Err}
 use Rattle.std.specs.declared.option.Option.{Option}
 use Rattle.std.specs.Io.KnownBytes.{Consumes, IsAtEnd}
 use Rattle.book_model.specs.lines.Lines.{lines_of}
 use Rattle.book_model.specs.lines.Text.{line_text}
 use Rattle.conversion.specs.Printing.{Printed, CutShort}
 use Rattle.conversion.specs.Counting.{Counted, CountCutShort}
-use Rattle.run_core.specs.Commands.{Input, whole, nothing, Lines, given, made, Work, print, count, judge, renew, work_of, sample_lines}
+use Rattle.run_core.specs.Commands.{Input, whole, nothing, Lines, given, made, Work, print, count, judge, renew}
+use Rattle.run_core.specs.Commands.{work_of, sample_lines}
 use Rattle.cert_parser.specs.Reading.{grammar_of}
 use Rattle.run_core.specs.Checking.{ChecksText, CheckCutShort, RefusesText}
 use Rattle.run_core.specs.Upgrading.{Upgrades, UpgradeCutShort, upgradable}
@@ -18,7 +20,8 @@ use Rattle.conversion.specs.declared.text.WriteStop.{WriteStop}
 use Rattle.conversion.specs.declared.text.WriteStop.TheVariants as stop
 use Rattle.conversion.specs.declared.text.WriteStop.TheVariants.{Fault}
 use Rattle.run_core.specs.declared.status.Status.{Status}
-use Rattle.run_core.specs.declared.status.Status.TheVariants.{Done, Mixed, Words, ReadFault, WriteFault, Memory, TooLarge, BadText}
+use Rattle.run_core.specs.declared.status.Status.TheVariants.{Done, Mixed, Words, ReadFault, WriteFault, Memory}
+use Rattle.run_core.specs.declared.status.Status.TheVariants.{TooLarge, BadText}
 
 -- the number of a status, with which the program exits
 abbrev pub status_number : Status → ℕ
@@ -76,8 +79,8 @@ abbrev pub lines_in : Lines → List ℕ → List (List ℕ)
 lines_in given input = lines_of input
 lines_in (made requests) input = map line_text requests
 
--- what work has done with an input: the text of lines stands there, or the counts of a sample's lines, or the verdicts of a
--- certificate, or the text that it is upgraded to
+-- what work has done with an input: the text of lines stands there, or the counts of a sample's lines, or the verdicts
+-- of a certificate, or the text that it is upgraded to
 abbrev pub IsDone : Work → Option (List ℕ) → Option (List ℕ) → List ℕ → Bool → Type 0
 IsDone (print lines) old new input all = Printed old new (lines_in lines input) all
 IsDone (count n seed) old new input all = Counted old new (sample_lines n seed) n seed all
@@ -117,8 +120,8 @@ ended (Ok false) = Mixed
 ended (Err Fault) = WriteFault
 ended (Err stop.Memory) = Memory
 
--- how work on a certificate ends: with each verdict yes or each line a result, or not, with bytes that aren't such a file, or
--- where it stopped
+-- how work on a certificate ends: with each verdict yes or each line a result, or not, with bytes that aren't such a
+-- file, or where it stopped
 abbrev pub check_ended : Result Checked WriteStop → Status
 check_ended (Ok AllYes) = Done
 check_ended (Ok NotAll) = Mixed

@@ -23,7 +23,8 @@ has_header version (line ∷ lines) = is_word (header_line version) line
 unfoldable pub upgradable : List ℕ → Reading
 upgradable bytes = if has_header WRITTEN (lines_of bytes) then bad 1 1 else grammar_of bytes
 
--- the bytes are a file of an older version, and the text of what an upgrade makes of its lines stands behind what the sink held
+-- the bytes are a file of an older version, and the text of what an upgrade makes of its lines stands behind what the
+-- sink held
 pub record Upgrades (old new : Option (List ℕ)) (input : List ℕ) (all_results : Bool) : Type 0 where
   pub of : CertFile
   pub read : upgradable input ≡ file of
@@ -37,5 +38,7 @@ Becomes old new input BadText = RefusesText (upgradable input) old new
 
 -- a prefix of what is written for the bytes stands there
 pub data UpgradeCutShort (old new : Option (List ℕ)) (input : List ℕ) : Type 0 where
-  cut_text : (f : CertFile) → upgradable input ≡ file f → RenewedCutShort old new f.lines → UpgradeCutShort old new input
-  cut_refusal : (line rule : ℕ) → upgradable input ≡ bad line rule → AppendsPrefix old new (bad_text line rule) → UpgradeCutShort old new input
+  cut_text : (f : CertFile) → upgradable input ≡ file f → RenewedCutShort old new f.lines
+      → UpgradeCutShort old new input
+  cut_refusal : (line rule : ℕ) → upgradable input ≡ bad line rule → AppendsPrefix old new (bad_text line rule)
+      → UpgradeCutShort old new input

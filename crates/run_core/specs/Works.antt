@@ -13,7 +13,8 @@ DoesWork (print lines) input (Count rows n seed) = ⊥
 DoesWork (print lines) input Judge = ⊥
 DoesWork (print lines) input Renew = ⊥
 DoesWork (count m s) input (Print rows) = ⊥
-DoesWork (count m s) input (Count rows n seed) = (n ≡ m) × (seed ≡ s) × (lines_of_rows rows ≡ sample_lines m s) × AreSpelledRows rows
+DoesWork (count m s) input (Count rows n seed) = (n ≡ m) × (seed ≡ s) × (lines_of_rows rows ≡ sample_lines m s)
+    × AreSpelledRows rows
 DoesWork (count m s) input Judge = ⊥
 DoesWork (count m s) input Renew = ⊥
 DoesWork judge input (Print rows) = ⊥

@@ -4,7 +4,8 @@ use Rattle.std.specs.Prelude.{slice_get}
 use Rattle.std.specs.Option.{option_map_or}
 
 -- what a function tells of the item at a place it tells of the item that was read there
-pub read_at : {X : Type 0} (tells : X → ℕ) (items : List X) (place : ℕ) (item : X) → place < length items → item ≡ get_or items place item
+pub read_at : {X : Type 0} (tells : X → ℕ) (items : List X) (place : ℕ) (item : X) → place < length items
+    → item ≡ get_or items place item
     → option_map_or tells (slice_get items place) 0 ≡ tells item
 read_at tells [] place item less is = absurd (omega (arith, less))
 read_at tells (first ∷ rest) zero item less is = ap tells (sym is)

@@ -1,5 +1,5 @@
--- What a shelf is: which slots are set, and the steps by which that changes. A step sets one slot; nothing else changes a
--- shelf, whoever works on it.
+-- What a shelf is: which slots are set, and the steps by which that changes. A step sets one slot; nothing else changes
+-- a shelf, whoever works on it.
 use Rattle.std.specs.Prelude.{◌≡◌, ℕ, List, [], ◌∷◌, Option, Some, None, IfSome}
 use Rattle.std.specs.Ordering.{nat_cmp}
 use Rattle.std.specs.FinMap as map
@@ -52,8 +52,8 @@ abbrev pub after : Slots → List Step → Slots
 after slots [] = slots
 after slots (step ∷ steps) = after (set_once slots step.slot step.entry) steps
 
--- What a call shows of its step, by what its pass had seen of the slot before: whatever others did meanwhile, the slot held
--- something, or nothing, that the pass could see so, and after the step it holds the entry that is given.
+-- What a call shows of its step, by what its pass had seen of the slot before: whatever others did meanwhile, the slot
+-- held something, or nothing, that the pass could see so, and after the step it holds the entry that is given.
 pub record IsStep (seen : Option Entry) (offered given : Entry) : Type 0 where
   pub held : Option Entry
   pub as_seen : IfSome seen (λ entry. held ≡ Some entry)

@@ -16,9 +16,11 @@ record IsFromMoment {E : Type 0} (shown : E → Interval) (w : World) (v : Expre
   within : Within shown w moment y
 
 -- what leads by the centuries of each moment of dynamical time leads by the centuries of a moment of universal time
-pub by_dynamical : {E U : Type 0} {shown : E → Interval} {w : World} {S : Expression → U → Type 0} (x : Expression) (next : Expression → Program Expression)
+pub by_dynamical : {E U : Type 0} {shown : E → Interval} {w : World} {S : Expression → U → Type 0} (x : Expression)
+    (next : Expression → Program Expression)
     {b m a : ℕ} {y : E} {t : Result U Fail} →
-    Leads w (Within shown w) (dynamical_of x) b m (Ok y) → ((d : Expression) → Within shown w d y → Leads w S (next (in_centuries d)) m a t)
+    Leads w (Within shown w) (dynamical_of x) b m (Ok y)
+    → ((d : Expression) → Within shown w d y → Leads w S (next (in_centuries d)) m a t)
     → Leads w S (bind (centuries_of x) next) b a t
 unfolding centuries_of
 by_dynamical {E = E} {shown = shown} {w = w} {S = S} x next {m = m} {a = a} {t = t} h k =

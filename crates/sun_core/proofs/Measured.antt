@@ -1,28 +1,36 @@
 -- How wide the sun's longitude, the estimates from it, the obliquity, the equation of time and noon are at the scale
 -- 2^-56. The bound of each expression is computed once (`.._reach`), with the sum of the periodic terms as a free
 -- argument whose own width is given; `measured` and `sloped` lead from there to the enclosure.
-use Rattle.std.specs.Prelude.{◌≡◌, ℕ, ◌+◌, ◌-◌, ◌*◌, ◌/◌, ◌^◌, ◌≤◌, true, ℤ, pos, neg_ℤ, ◌+ℤ◌, ◌*ℤ◌, nat_lt, unsigned_abs, max, refl, if◌then◌else◌, ◌==◌}
+use Rattle.std.specs.Prelude.{◌≡◌, ℕ, ◌+◌, ◌-◌, ◌*◌, ◌/◌, ◌^◌, ◌≤◌, true, ℤ, pos, neg_ℤ, ◌+ℤ◌, ◌*ℤ◌, nat_lt}
+use Rattle.std.specs.Prelude.{unsigned_abs, max, refl, if◌then◌else◌, ◌==◌}
 use Rattle.std.proofs.Common.{arith}
 use Rattle.std.proofs.lemmas.Int.{ints}
 use Rattle.std.proofs.lemmas.Bool.{lt-ltb}
 use Rattle.book_model.specs.Interval.{Interval}
 use Rattle.book_model.specs.declared.frac.Frac.{Frac}
-use Rattle.book_model.specs.declared.sun_tables.TheConstants.{OBLIQUITY, PARIS_LONGITUDE, PERSIAN_NOON_LONGITUDE, SUN_UNIT_COARSELY, SUN_UNIT_FINELY}
+use Rattle.book_model.specs.declared.sun_tables.TheConstants.{OBLIQUITY, PARIS_LONGITUDE, PERSIAN_NOON_LONGITUDE}
+use Rattle.book_model.specs.declared.sun_tables.TheConstants.{SUN_UNIT_COARSELY, SUN_UNIT_FINELY}
 use Rattle.book_model.specs.declared.time_tables.TheConstants.{NOON_2000}
-use Rattle.book_model.specs.numbers.Bounds.{Bound, unbounded, bounded, Reach, implies, bound_of, limits_at, limits_of, integer_bound, constant_bound, sum_bound, difference_bound, scaled_bound, product_bound, power_bound, quotient_bound, minimum_bound, maximum_bound, spanned_bound, sine_spans, cosine_spans}
+use Rattle.book_model.specs.numbers.Bounds.{Bound, unbounded, bounded, Reach, implies, bound_of, limits_at, limits_of}
+use Rattle.book_model.specs.numbers.Bounds.{integer_bound, constant_bound, sum_bound, difference_bound, scaled_bound}
+use Rattle.book_model.specs.numbers.Bounds.{product_bound, power_bound, quotient_bound, minimum_bound, maximum_bound}
+use Rattle.book_model.specs.numbers.Bounds.{spanned_bound, sine_spans, cosine_spans}
 use Rattle.book_model.specs.numbers.Expressions.{Expression, argument, constant, integer, add, subtract, scale, minimum}
 use Rattle.book_model.specs.numbers.Fractions.{fraction_of}
 use Rattle.book_model.specs.numbers.Polynomials.{quadratic_of, cubic_of, quadratic_term_of}
 use Rattle.book_model.specs.numbers.Ranges.{IsInTable}
 use Rattle.book_model.specs.numbers.Relations.{Narrow, Keeps}
-use Rattle.book_model.specs.programs.Widths.{IsAbout, IsMoment, IsUpTo, AreCenturies, table_days, table_from, table_to, table_centuries, centuries_from, centuries_to}
+use Rattle.book_model.specs.programs.Widths.{IsAbout, IsMoment, IsUpTo, AreCenturies, table_days, table_from, table_to}
+use Rattle.book_model.specs.programs.Widths.{table_centuries, centuries_from, centuries_to}
 use Rattle.book_model.specs.sky.Facts.{IsFactDay}
-use Rattle.book_model.specs.sky.Noon.{tilt_of, reduction_of, centre_of, joint_of, second_reduction_of, second_centre_of, radians_of, part_of_day, equation_of, ahead_of}
+use Rattle.book_model.specs.sky.Noon.{tilt_of, reduction_of, centre_of, joint_of, second_reduction_of, second_centre_of}
+use Rattle.book_model.specs.sky.Noon.{radians_of, part_of_day, equation_of, ahead_of}
 use Rattle.book_model.specs.sky.Sun.{nutation_of, back_by}
 use Rattle.book_model.proofs.Implying.{limits_within}
 use Rattle.encl_core.proofs.Measuring.{measured, measured_argument, sloped, looser, drawn}
 use Rattle.sun_core.specs.Daily.{in_centuries, has_daily, by_centuries, by_days}
-use Rattle.sun_core.specs.Steps.{apparent_midnight_of, apparent_noon_of, computed_mean_longitude_of, computed_aberration_of}
+use Rattle.sun_core.specs.Steps.{apparent_midnight_of, apparent_noon_of, computed_mean_longitude_of}
+use Rattle.sun_core.specs.Steps.{computed_aberration_of}
 use Rattle.sun_core.specs.declared.turns.TheConstants.{SUN_SIZES, SUN_SLOPE}
 use Rattle.periodic_terms.specs.Turning.{width_of_sum}
 use Rattle.sun_core.specs.Widths.{IsObliquity, IsNarrowPlace, IsLocalMoment, IsNearMoment}

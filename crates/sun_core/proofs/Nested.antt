@@ -3,7 +3,8 @@ use Rattle.std.specs.Prelude.{◌≡◌, refl}
 use Rattle.book_model.specs.programs.Programs.{Program, answer, void, cell, compare, bind}
 
 -- what follows an answer may be taken together
-pub bind_nested : {A B C : Type 0} (p : Program A) (f : A → Program B) (h : B → Program C) → bind (bind p f) h ≡ bind p (λ v. bind (f v) h)
+pub bind_nested : {A B C : Type 0} (p : Program A) (f : A → Program B) (h : B → Program C)
+    → bind (bind p f) h ≡ bind p (λ v. bind (f v) h)
 unfolding bind
 bind_nested (answer v) f h = refl
 bind_nested (void s) f h = refl

@@ -8,9 +8,11 @@ use Rattle.book_model.specs.declared.season.Side.{Side}
 use Rattle.book_model.specs.declared.season.Side.TheVariants.{UpTo, Past, From}
 use Rattle.book_model.specs.declared.time_tables.TheConstants.{TABLE_START, TABLE_END}
 use Rattle.book_model.specs.numbers.Expressions.{Expression, World, value, integer}
-use Rattle.book_model.specs.sky.Kinds.{longitude_at_of, is_on_side_of, has_side_at, last_passage_of, search_start_of, season_day_of, nowruz_of, french_year_of}
+use Rattle.book_model.specs.sky.Kinds.{longitude_at_of, is_on_side_of, has_side_at, last_passage_of, search_start_of}
+use Rattle.book_model.specs.sky.Kinds.{season_day_of, nowruz_of, french_year_of}
 use Rattle.book_model.specs.sky.Noon.{noon_of, paris_midnight_of}
-use Rattle.book_model.specs.programs.Programs.{Program, answer, integers, cell_at, run, valued, outcome, AtMost, answer_at_most, void_at_most, cell_at_most, compare_at_most}
+use Rattle.book_model.specs.programs.Programs.{Program, answer, integers, cell_at, run, valued, outcome, AtMost}
+use Rattle.book_model.specs.programs.Programs.{answer_at_most, void_at_most, cell_at_most, compare_at_most}
 use Rattle.book_model.specs.programs.Searches.{first_of_days, first_day_from}
 use Rattle.book_model.specs.sky.Sun.{sun_of, past_of, estimate_of}
 use Rattle.book_model.specs.sky.Time.{centuries_of}
@@ -21,7 +23,8 @@ use Rattle.time_scales.proofs.Moments.{dated_in_table}
 use Rattle.book_model.proofs.Values.{value_proper}
 
 -- a search makes at most the tests of each of its days
-pub days_few : (n days : ℕ) (test : ℤ → Program Bool) (day : ℤ) → ((d : ℤ) → AtMost n (test d)) → AtMost (days * n) (first_of_days days test day)
+pub days_few : (n days : ℕ) (test : ℤ → Program Bool) (day : ℤ) → ((d : ℤ) → AtMost n (test d))
+    → AtMost (days * n) (first_of_days days test day)
 unfolding first_of_days
 days_few n zero test day h = void_at_most
 days_few n (suc more) test day h = at_most_more (n + more * n) (suc more * n) (omega arith)
@@ -44,11 +47,14 @@ pub has_side_few : (n : ℕ) (moment : ℤ → Program Expression) (side : Side)
 unfolding has_side_at longitude_at_of
 has_side_few n moment side h d = at_most_bind (n + 2) 1 (at_most_bind n 2 (h d) sun_few) (side_few side)
 
-start_few : (n : ℕ) (moment : ℤ → Program Expression) (l : ℤ) → ((d : ℤ) → AtMost n (moment d)) → (d : ℤ) → AtMost (n + 6 + 1) (search_start_of moment l d)
+start_few : (n : ℕ) (moment : ℤ → Program Expression) (l : ℤ) → ((d : ℤ) → AtMost n (moment d)) → (d : ℤ)
+    → AtMost (n + 6 + 1) (search_start_of moment l d)
 unfolding search_start_of last_passage_of
-start_few n moment l h d = at_most_bind (n + 6) 1 (at_most_bind n 6 (h d) (estimate_few (integer l))) (λ s. cell_at_most (λ q. answer_at_most))
+start_few n moment l h d = at_most_bind (n + 6) 1 (at_most_bind n 6 (h d) (estimate_few (integer l)))
+    (λ s. cell_at_most (λ q. answer_at_most))
 
-pub season_day_few : (n : ℕ) (moment : ℤ → Program Expression) (season : Season) → ((d : ℤ) → AtMost n (moment d)) → n ≤ 1000 → (d : ℤ)
+pub season_day_few : (n : ℕ) (moment : ℤ → Program Expression) (season : Season) → ((d : ℤ) → AtMost n (moment d))
+    → n ≤ 1000 → (d : ℤ)
     → AtMost 99999 (season_day_of moment season d)
 unfolding season_day_of first_day_from
 season_day_few n moment season h l d =
@@ -73,7 +79,8 @@ pub record IsEstimate (q : ℤ) : Type 0 where
   pub from : (TABLE_START -ℤ pos 579) ≤ℤ q
   pub to : q ≤ℤ TABLE_END
 
-pub search_start_near : (w : World) (moment : ℤ → Program Expression) (l d q : ℤ) (s : Expression) → outcome (run w (last_passage_of moment l d)) ≡ valued s
+pub search_start_near : (w : World) (moment : ℤ → Program Expression) (l d q : ℤ) (s : Expression)
+    → outcome (run w (last_passage_of moment l d)) ≡ valued s
     → cell_at integers (value w s) ≡ Some q → IsEstimate q
 unfolding last_passage_of estimate_of past_of sun_of
 search_start_near w moment l d q s h e =
@@ -81,6 +88,7 @@ search_start_near w moment l d q s h e =
     let p = parts w (past_of (integer l) m.part) _ s m.then in
     let u = parts w (sun_of m.part) _ p.part p.first in
     let c = parts w (centuries_of m.part) _ u.part u.first in
-    let b = estimate_between w (integer l) m.part s TABLE_START TABLE_END (dated_in_table w m.part c.part c.first) m.then in
+    let b = estimate_between w (integer l) m.part s TABLE_START TABLE_END (dated_in_table w m.part c.part c.first)
+    m.then in
     let f = floor_between _ _ q (value w s) (value_proper w s) b e in
     record { from = omega (arith, ints, f.0); to = omega (arith, ints, f.1) }

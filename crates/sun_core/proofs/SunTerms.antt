@@ -22,7 +22,8 @@ use Rattle.sun_core.specs.Daily.{in_centuries}
 use Rattle.sun_core.proofs.Scalings.{both_hold_in_sum, daily_ten_millionths_are}
 use Rattle.periodic_terms.specs.Turning.{AreTurning, HasReach, turning_term_of, reach_to, sizes_to}
 use Rattle.periodic_terms.proofs.TableMatches.{tables_match}
-use Rattle.sun_core.specs.declared.turns.TheConstants.{SUN_TURNS, SUN_SLOPE, SUN_SIZES, GREATEST_SLOPE, GREATEST_SIZES, OTHER_SLOPE, OTHER_SIZES}
+use Rattle.sun_core.specs.declared.turns.TheConstants.{SUN_TURNS, SUN_SLOPE, SUN_SIZES, GREATEST_SLOPE, GREATEST_SIZES}
+use Rattle.sun_core.specs.declared.turns.TheConstants.{OTHER_SLOPE, OTHER_SIZES}
 
 -- ---- the tables match
 pub sun_turns : AreTurning SUN_TERMS SUN_TURNS
@@ -84,7 +85,8 @@ other_reach = record {
 }
 
 -- ---- the definition's periodic terms, in centuries
-periodic_term_within : (w : World) (x : Expression) (v : PeriodicTerm) → 40 ≤ w.depth → value w (periodic_term_of (in_centuries x) v)
+periodic_term_within : (w : World) (x : Expression) (v : PeriodicTerm) → 40 ≤ w.depth
+    → value w (periodic_term_of (in_centuries x) v)
     ⊆ value w (turning_term_of x v)
 unfolding value periodic_term_of turning_term_of in_centuries Lies
 periodic_term_within w x v d =
@@ -100,13 +102,16 @@ periodic_term_within w x v d =
     (within_refl (exactly (whole v.size)))
 
 pub terms_within : (w : World) (x : Expression) (vs : List PeriodicTerm) (n : ℕ) → 40 ≤ w.depth
-    → value w (terms_to (periodic_term_of (in_centuries x)) no_periodic_term vs n) ⊆ value w (terms_to (turning_term_of x) no_periodic_term vs n)
+    → value w (terms_to (periodic_term_of (in_centuries x)) no_periodic_term vs n) ⊆ value w
+    (terms_to (turning_term_of x) no_periodic_term vs n)
 unfolding value terms_to
 terms_within w x vs zero d = within_refl _
-terms_within w x vs (suc n) d = sum_within (terms_within w x vs n d) (periodic_term_within w x (slice_index_or vs n no_periodic_term) d)
+terms_within w x vs (suc n) d = sum_within (terms_within w x vs n d)
+    (periodic_term_within w x (slice_index_or vs n no_periodic_term) d)
 
 pub sun_terms_within : {E : Type 0} (shown : E → Interval) (w : World) (x : Expression) (vs : List PeriodicTerm) (e : E)
-    → Within shown w (terms_of (turning_term_of x) no_periodic_term vs) e → Within shown w (periodic_terms_of vs (in_centuries x)) e
+    → Within shown w (terms_of (turning_term_of x) no_periodic_term vs) e
+    → Within shown w (periodic_terms_of vs (in_centuries x)) e
 unfolding Lies terms_of
 sun_terms_within shown w x vs e h = record {
   deep = h.deep;

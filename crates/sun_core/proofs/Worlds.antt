@@ -12,7 +12,12 @@ either_proper i j true p q = p
 either_proper i j false p q = q
 
 pub world_of_two : (i j : Interval) → IsProper i → IsProper j → World
-world_of_two i j p q = record { depth = 40; arguments = λ k. if k == 0 then i else j; proper = λ k. either_proper i j (k == 0) p q }
+world_of_two i j p q = record {
+  depth = 40;
+  arguments = λ k. if k == 0 then i else j;
+  proper = λ k. either_proper i j
+      (k == 0) p q;
+}
 
 pub within_first : {E : Type 0} (shown : E → Interval) (p : (e : E) → IsProper (shown e)) (e f : E)
     → Within shown (world_of_two (shown e) (shown f) (p e) (p f)) (argument 0) e

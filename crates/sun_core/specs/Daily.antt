@@ -1,4 +1,5 @@
--- The sun's periodic terms and mean longitude by days: as the definitions have them, in centuries, and as they are computed.
+-- The sun's periodic terms and mean longitude by days: as the definitions have them, in centuries, and as they are
+-- computed.
 use Rattle.std.specs.Prelude.{Bool, ◌-◌, ◌*◌, ◌&&◌, nat_lt, nat_le, cond}
 use Rattle.book_model.specs.Fraction.{whole}
 use Rattle.book_model.specs.declared.frac.Frac.{Frac}

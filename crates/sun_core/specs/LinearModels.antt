@@ -12,10 +12,12 @@ use Rattle.sun_core.specs.declared.linear_models.TheConstants.{GREATEST_SUN_TERM
 
 -- the sum of the greatest periodic terms, the first of the table, and that of the others, by the days
 unfoldable pub greatest_sun_terms_of : Expression → Expression
-greatest_sun_terms_of x = terms_of (periodic_term_of (in_centuries x)) no_periodic_term (slice_range SUN_TERMS 0 GREATEST_SUN_TERMS)
+greatest_sun_terms_of x = terms_of (periodic_term_of (in_centuries x)) no_periodic_term
+    (slice_range SUN_TERMS 0 GREATEST_SUN_TERMS)
 
 unfoldable pub other_sun_terms_of : Expression → Expression
-other_sun_terms_of x = terms_of (periodic_term_of (in_centuries x)) no_periodic_term (slice_range SUN_TERMS GREATEST_SUN_TERMS (length SUN_TERMS))
+other_sun_terms_of x = terms_of (periodic_term_of (in_centuries x)) no_periodic_term
+    (slice_range SUN_TERMS GREATEST_SUN_TERMS (length SUN_TERMS))
 
 -- a linear model's parts hold those of the longitude at each number of days of the interval
 pub record IsSunLinearModel {E : Type 0} (shown : E → Interval) (days w a n : E) : Type 0 where

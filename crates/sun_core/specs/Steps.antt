@@ -1,7 +1,8 @@
 -- The parts of the sun's longitude, and the order in which they are computed; parts of the equation of time and of
 -- noon.
 use Rattle.std.specs.Prelude.{ℤ, pos, ◌+ℤ◌}
-use Rattle.book_model.specs.declared.sun_tables.TheConstants.{ABERRATION, MEAN_ABERRATION, SUN_AT_2000, SUN_RATE, SUN_TERMS}
+use Rattle.book_model.specs.declared.sun_tables.TheConstants.{ABERRATION, MEAN_ABERRATION, SUN_AT_2000, SUN_RATE}
+use Rattle.book_model.specs.declared.sun_tables.TheConstants.{SUN_TERMS}
 use Rattle.book_model.specs.declared.tables.TheConstants.{HALF}
 use Rattle.book_model.specs.numbers.Expressions.{Expression, integer, constant, add, subtract, scale, cosine}
 use Rattle.book_model.specs.numbers.Fractions.{fraction_of, ten_millionths}

@@ -1,6 +1,7 @@
 -- Bounds at coarser scales by those at the finest: the ranges are the same, and the widths grow by no more than the
 -- unit does. So what is computed at the scale 2^-56 alone holds at each scale from 2^-36 on.
-use Rattle.std.specs.Prelude.{◌≡◌, ℕ, zero, suc, ◌+◌, ◌-◌, ◌*◌, ◌^◌, ◌≤◌, ◌<◌, ◌&&◌, ℤ, pos, Bool, true, false, nat_le, nat_lt, refl, List, length, slice_index_or, unsigned_abs, ◌+ℤ◌, ◌*ℤ◌}
+use Rattle.std.specs.Prelude.{◌≡◌, ℕ, zero, suc, ◌+◌, ◌-◌, ◌*◌, ◌^◌, ◌≤◌, ◌<◌, ◌&&◌, ℤ, pos, Bool, true, false, nat_le}
+use Rattle.std.specs.Prelude.{nat_lt, refl, List, length, slice_index_or, unsigned_abs, ◌+ℤ◌, ◌*ℤ◌}
 use Rattle.std.specs.Int.{int_min, int_max}
 use lib.Signed.{le_z}
 use Rattle.std.proofs.Common.{arith}
@@ -10,13 +11,16 @@ use Rattle.std.proofs.lemmas.Bool.{ltb-true, leb-true, lt-ltb, le-leb}
 use Rattle.book_model.specs.Fraction.{Fraction, floor_quotient}
 use Rattle.book_model.specs.declared.frac.Frac.{Frac}
 use Rattle.book_model.specs.declared.tables.TheConstants.{SECOND}
-use Rattle.book_model.specs.numbers.Bounds.{Bound, bounded, unbounded, Limits, limited, range_size, ceil_div, ceil_quotient, floor_at_32, ceil_at_32, bound_of, implies, integer_bound, constant_bound, sum_bound, scaled_bound}
+use Rattle.book_model.specs.numbers.Bounds.{Bound, bounded, unbounded, Limits, limited, range_size, ceil_div}
+use Rattle.book_model.specs.numbers.Bounds.{ceil_quotient, floor_at_32, ceil_at_32, bound_of, implies, integer_bound}
+use Rattle.book_model.specs.numbers.Bounds.{constant_bound, sum_bound, scaled_bound}
 use Rattle.book_model.specs.numbers.Expressions.{integer, constant, add, scale}
 use Rattle.book_model.specs.numbers.Fractions.{fraction_of}
 use Rattle.book_model.specs.sky.Correction.{int_power, polynomial_to, polynomial_of, seconds_of, no_fraction}
 use Rattle.book_model.specs.sky.Time.{hundreds_of, centuries_to_july}
 use Rattle.book_model.specs.declared.correction_rows.CorrectionForm.{CorrectionForm}
-use Rattle.book_model.specs.declared.correction_rows.CorrectionForm.TheVariants.{SecondsSince, SecondsByHundreds, DaysByCenturies}
+use Rattle.book_model.specs.declared.correction_rows.CorrectionForm.TheVariants.{SecondsSince, SecondsByHundreds}
+use Rattle.book_model.specs.declared.correction_rows.CorrectionForm.TheVariants.{DaysByCenturies}
 use Rattle.book_model.proofs.CorrectionRows.{both}
 use Rattle.time_scales.specs.Corrections.{computed_by}
 use Rattle.time_scales.specs.Horner.{horner_to, horner_of}

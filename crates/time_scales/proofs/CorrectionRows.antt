@@ -1,11 +1,13 @@
 -- The rows of the table of ΔT: of which years they are computed, and what stands behind a value of ΔT.
-use Rattle.std.specs.Prelude.{◌≡◌, ℕ, ◌-◌, ◌+◌, ℤ, pos, negsuc, ◌+ℤ◌, ◌-ℤ◌, ◌≤ℤ◌, ◌<ℤ◌, Bool, true, ◌&&◌, nat_lt, unsigned_abs, length, Option, Some, None, refl}
+use Rattle.std.specs.Prelude.{◌≡◌, ℕ, ◌-◌, ◌+◌, ℤ, pos, negsuc, ◌+ℤ◌, ◌-ℤ◌, ◌≤ℤ◌, ◌<ℤ◌, Bool, true, ◌&&◌, nat_lt}
+use Rattle.std.specs.Prelude.{unsigned_abs, length, Option, Some, None, refl}
 use Rattle.std.specs.List.{list_all}
 use Rattle.std.proofs.Common.{arith}
 use Rattle.std.proofs.lemmas.Int.{ints}
 use Rattle.std.proofs.lemmas.Bool.{ltb-true}
 use Rattle.book_model.specs.declared.correction_rows.CorrectionForm.{CorrectionForm}
-use Rattle.book_model.specs.declared.correction_rows.CorrectionForm.TheVariants.{SecondsSince, SecondsByHundreds, DaysByCenturies}
+use Rattle.book_model.specs.declared.correction_rows.CorrectionForm.TheVariants.{SecondsSince, SecondsByHundreds}
+use Rattle.book_model.specs.declared.correction_rows.CorrectionForm.TheVariants.{DaysByCenturies}
 use Rattle.book_model.specs.declared.frac.Frac.{Frac}
 use Rattle.book_model.specs.declared.site.Site.{Site}
 use Rattle.book_model.specs.numbers.Expressions.{Expression, World}
@@ -27,7 +29,8 @@ year_inside row y h k = omega (arith, ints)
 
 -- ---- of which years a row is computed
 form_kept : CorrectionForm → (first last : ℤ) → ℕ → Bool
-form_kept (SecondsSince origin) first last n = nat_lt n 8 && (is_between (negsuc 255) (pos 256) (first -ℤ origin) && is_between (negsuc 255) (pos 256)
+form_kept (SecondsSince origin) first last n =
+    nat_lt n 8 && (is_between (negsuc 255) (pos 256) (first -ℤ origin) && is_between (negsuc 255) (pos 256)
     (last -ℤ origin))
 form_kept SecondsByHundreds first last n = true
 form_kept DaysByCenturies first last n = is_between (pos 1) (pos 9999) first && is_between (pos 1) (pos 9999) last
@@ -39,11 +42,14 @@ forms_kept : list_all is_form_kept corrections ≡ true
 unfolding corrections is_form_kept form_kept
 forms_kept = refl
 
-form_fits : (form : CorrectionForm) (first last y : ℤ) (n : ℕ) → form_kept form first last n ≡ true → first ≤ℤ y → y ≤ℤ last → IsFormYear form n y
+form_fits : (form : CorrectionForm) (first last y : ℤ) (n : ℕ) → form_kept form first last n ≡ true → first ≤ℤ y
+    → y ≤ℤ last → IsFormYear form n y
 unfolding form_kept
 form_fits (SecondsSince origin) first last y n e h k =
-    let b = both (nat_lt n 8) (is_between (negsuc 255) (pos 256) (first -ℤ origin) && is_between (negsuc 255) (pos 256) (last -ℤ origin)) e in
-    let c = both (is_between (negsuc 255) (pos 256) (first -ℤ origin)) (is_between (negsuc 255) (pos 256) (last -ℤ origin)) b.1 in
+    let b = both (nat_lt n 8) (is_between (negsuc 255) (pos 256) (first -ℤ origin) && is_between (negsuc 255) (pos 256)
+    (last -ℤ origin)) e in
+    let c = both (is_between (negsuc 255) (pos 256) (first -ℤ origin))
+    (is_between (negsuc 255) (pos 256) (last -ℤ origin)) b.1 in
     let l = lies (negsuc 255) (pos 256) (first -ℤ origin) c.0 in
     let m = lies (negsuc 255) (pos 256) (last -ℤ origin) c.1 in
     let f = ltb-true _ _ b.0 in
@@ -72,7 +78,8 @@ none_valued : (w : World) (s : Site) (c : Expression) → outcome (run w (void s
 unfolding run outcome
 none_valued w s c e = absurd (cc)
 
-row_of_value : (w : World) (y : ℤ) (c : Expression) (o : Option Correction) → row_of_year y ≡ o → outcome (run w (by_row y o)) ≡ valued c → HasRow y c
+row_of_value : (w : World) (y : ℤ) (c : Expression) (o : Option Correction) → row_of_year y ≡ o
+    → outcome (run w (by_row y o)) ≡ valued c → HasRow y c
 row_of_value w y c None f e = absurd (none_valued w _ c e)
 row_of_value w y c (Some row) f e = record { row = row; found = f; same = valued_same w _ c e }
 

@@ -1,6 +1,7 @@
 -- From where to where the values of ΔT (dynamical less universal time) lie, in milliseconds: computed for each year,
 -- with endpoints rounded outwards.
-use Rattle.std.specs.Prelude.{◌≡◌, suc, ◌-◌, ◌^◌, ◌&&◌, ◌||◌, int_le, int_lt, List, ℤ, pos, negsuc, ◌+ℤ◌, ◌*ℤ◌, ◌≤ℤ◌, Some, Bool, true, false, refl}
+use Rattle.std.specs.Prelude.{◌≡◌, suc, ◌-◌, ◌^◌, ◌&&◌, ◌||◌, int_le, int_lt, List, ℤ, pos, negsuc, ◌+ℤ◌, ◌*ℤ◌, ◌≤ℤ◌}
+use Rattle.std.specs.Prelude.{Some, Bool, true, false, refl}
 use Rattle.std.specs.List.{list_all}
 use Rattle.std.proofs.Common.{arith, sym, ◌∙◌}
 use Rattle.std.proofs.lemmas.Int.{ints}
@@ -14,11 +15,16 @@ use Rattle.book_model.proofs.Intervals.{within_trans, within_refl, within_everyt
 use Rattle.book_model.specs.declared.tables.TheConstants.{HALF, MILLISECONDS_OF_DAY}
 use Rattle.book_model.specs.calendars.Gregorian.{first_day, year_of_day, days_of_months, fixed_of}
 use Rattle.book_model.specs.declared.correction_rows.CorrectionForm.{CorrectionForm}
-use Rattle.book_model.specs.declared.correction_rows.CorrectionForm.TheVariants.{SecondsSince, SecondsByHundreds, DaysByCenturies}
+use Rattle.book_model.specs.declared.correction_rows.CorrectionForm.TheVariants.{SecondsSince, SecondsByHundreds}
+use Rattle.book_model.specs.declared.correction_rows.CorrectionForm.TheVariants.{DaysByCenturies}
 use Rattle.book_model.specs.declared.fact.TheConstants.{FIRST_DAY, LAST_DAY}
 use Rattle.book_model.specs.declared.frac.Frac.{Frac}
-use Rattle.book_model.specs.sky.Correction.{Correction, corrections, int_power, polynomial_to, polynomial_of, seconds_of, year_of, rounded_of}
-use Rattle.book_model.specs.numbers.Expressions.{Expression, argument, integer, constant, add, subtract, multiply, divide, negate, scale, power, minimum, maximum, hull, clamp, widen, pi, sine, cosine, tangent, root, arctangent, arcsine, arccosine, arctangent_of_two, remainder, World, value, exactly}
+use Rattle.book_model.specs.sky.Correction.{Correction, corrections, int_power, polynomial_to, polynomial_of}
+use Rattle.book_model.specs.sky.Correction.{seconds_of, year_of, rounded_of}
+use Rattle.book_model.specs.numbers.Expressions.{Expression, argument, integer, constant, add, subtract, multiply}
+use Rattle.book_model.specs.numbers.Expressions.{divide, negate, scale, power, minimum, maximum, hull, clamp, widen, pi}
+use Rattle.book_model.specs.numbers.Expressions.{sine, cosine, tangent, root, arctangent, arcsine, arccosine}
+use Rattle.book_model.specs.numbers.Expressions.{arctangent_of_two, remainder, World, value, exactly}
 use Rattle.book_model.specs.numbers.Fractions.{fraction_of}
 use Rattle.book_model.specs.sky.Kinds.{dt_of}
 use Rattle.book_model.specs.numbers.Polynomials.{polynomial_at}
@@ -107,7 +113,8 @@ value_ranged w (subtract x y) = within_everything _
 value_ranged w (multiply x y) = within_everything _
 value_ranged w (divide x y) = within_everything _
 value_ranged w (negate x) = within_everything _
-value_ranged w (scale a x) = within_trans (product_within (value_proper w x) (le_refl a) (value_ranged w x) (within_refl (exactly a))) (within_outwards _)
+value_ranged w (scale a x) = within_trans (product_within (value_proper w x) (le_refl a) (value_ranged w x)
+    (within_refl (exactly a))) (within_outwards _)
 value_ranged w (power x k) = within_everything _
 value_ranged w (minimum x y) = within_everything _
 value_ranged w (maximum x y) = within_everything _
@@ -151,24 +158,29 @@ unfoldable has_few_days_each : Correction → Bool
 has_few_days_each row = holds_from (has_few_days row.form row.coefficients) row.first (years_of row)
 
 rows_have_few_days : list_all has_few_days_each corrections ≡ true
-unfolding corrections has_few_days_each holds_from has_few_days ranged outwards sum product least greatest times plus smaller larger is_at_most computed_by
+unfolding corrections has_few_days_each holds_from has_few_days ranged outwards sum product least greatest times plus
+    smaller larger is_at_most computed_by
     horner_of horner_to fixed_of days_of_months first_day seconds_of polynomial_of polynomial_to int_power
 rows_have_few_days = refl
 
 -- those of the years of which facts have values are values, in milliseconds
 unfoldable has_values_each : Correction → Bool
-has_values_each row = int_lt row.last (year_of_day FIRST_DAY) || holds_from (is_value row.form row.coefficients) row.first (years_of row)
+has_values_each row = int_lt row.last (year_of_day FIRST_DAY) || holds_from (is_value row.form row.coefficients)
+    row.first (years_of row)
 
 rows_have_values : list_all has_values_each corrections ≡ true
-unfolding corrections has_values_each holds_from is_value ranged outwards sum product least greatest times plus smaller larger is_at_most computed_by horner_of
+unfolding corrections has_values_each holds_from is_value ranged outwards sum product least greatest times plus smaller
+    larger is_at_most computed_by horner_of
     horner_to fixed_of days_of_months first_day year_of_day seconds_of polynomial_of polynomial_to int_power
 rows_have_values = refl
 
 -- what a row's ΔT is, as it is computed
-computed_holds : (w : World) (form : CorrectionForm) (cs : List Frac) (y : ℤ) → value w (correction_by form cs y) ⊆ value w (computed_by form cs y)
+computed_holds : (w : World) (form : CorrectionForm) (cs : List Frac) (y : ℤ)
+    → value w (correction_by form cs y) ⊆ value w (computed_by form cs y)
 unfolding correction_by computed_by value
 computed_holds w (SecondsSince origin) cs y = within_refl _
-computed_holds w SecondsByHundreds cs y = product_within (value_proper w (polynomial_at cs (hundreds_of y))) (le_refl _) (values_same w cs (hundreds_of y))
+computed_holds w SecondsByHundreds cs y = product_within (value_proper w (polynomial_at cs (hundreds_of y))) (le_refl _)
+    (values_same w cs (hundreds_of y))
     (within_refl _)
 computed_holds w DaysByCenturies cs y = values_same w cs (centuries_to_july y)
 
@@ -176,7 +188,9 @@ rounded_holds : (w : World) (form : CorrectionForm) (cs : List Frac) (y : ℤ)
     → value w (rounded (correction_by form cs y)) ⊆ ranged (rounded (computed_by form cs y))
 unfolding value
 rounded_holds w form cs y =
-    within_trans (sum_within (product_within (value_proper w (correction_by form cs y)) (le_refl _) (computed_holds w form cs y) (within_refl _))
+    within_trans
+    (sum_within (product_within (value_proper w (correction_by form cs y)) (le_refl _) (computed_holds w form cs y)
+    (within_refl _))
     (within_refl _)) (value_ranged w (rounded (computed_by form cs y)))
 
 -- ΔT that has a value lies within an interval that is within 200 days of 0
@@ -189,11 +203,13 @@ pub correction_close : (w : World) (y : ℤ) (c : Expression) → HasRow y c →
 unfolding has_few_days_each has_few_days
 correction_close w y c h =
     let r = year_row has_few_days_each y h.row rows_have_few_days h.found in
-    let f = holds_at (has_few_days h.row.form h.row.coefficients) (years_of h.row) h.row.first y r.passes r.from (year_inside h.row y r.from r.to) in
+    let f = holds_at (has_few_days h.row.form h.row.coefficients) (years_of h.row) h.row.first y r.passes r.from
+    (year_inside h.row y r.from r.to) in
     record {
       around = ranged (computed_by h.row.form h.row.coefficients y);
       fits = f;
-      inside = rw (← h.same) (within_trans (computed_holds w h.row.form h.row.coefficients y) (value_ranged w (computed_by h.row.form h.row.coefficients y)));
+      inside = rw (← h.same) (within_trans (computed_holds w h.row.form h.row.coefficients y)
+          (value_ranged w (computed_by h.row.form h.row.coefficients y)));
     }
 
 -- ---- the value of a day's ΔT
@@ -218,7 +234,8 @@ year_small d h =
     let q : true ≡ int_le (year_of_day LAST_DAY) (pos 10000) = sym last_year_fits in
     (omega (arith, ints), omega (arith, ints))
 
-floor_fits : (i j : Interval) (v : ℤ) → IsProper i → i ⊆ j → fits j ≡ true → cell_at integers i ≡ Some v → (negsuc 9999999 ≤ℤ v) × (v ≤ℤ pos 10000000)
+floor_fits : (i j : Interval) (v : ℤ) → IsProper i → i ⊆ j → fits j ≡ true → cell_at integers i ≡ Some v
+    → (negsuc 9999999 ≤ℤ v) × (v ≤ℤ pos 10000000)
 unfolding cell_at cell_of
 floor_fits i everything v p h f e = absurd (cc)
 floor_fits everything (between c d) v p h f e = absurd h.endpoints
@@ -249,10 +266,12 @@ value_fits d y c h v e =
     let m = year_mono FIRST_DAY d v.0 in
     let l : int_lt h.row.last (year_of_day FIRST_DAY) ≡ false = grind (arith, ints, e, m, r.to) in
     let f = not_first _ _ r.passes l in
-    holds_at (is_value h.row.form h.row.coefficients) (years_of h.row) h.row.first y f r.from (year_inside h.row y r.from r.to)
+    holds_at (is_value h.row.form h.row.coefficients) (years_of h.row) h.row.first y f r.from
+    (year_inside h.row y r.from r.to)
 
 -- a value of ΔT lies within 10,000,000 of 0
-pub dt_value : (w : World) (d v : ℤ) → IsValueDay d → outcome (run w (dt_of d)) ≡ valued v → (negsuc 9999999 ≤ℤ v) × (v ≤ℤ pos 10000000)
+pub dt_value : (w : World) (d v : ℤ) → IsValueDay d → outcome (run w (dt_of d)) ≡ valued v → (negsuc 9999999 ≤ℤ v)
+    × (v ≤ℤ pos 10000000)
 unfolding dt_of rounded_of
 dt_value w d v k e =
     let y = parts w (year_of (integer d)) _ v e in
@@ -261,4 +280,5 @@ dt_value w d v k e =
     let h = row_behind w y.part c.part c.first in
     let r = decides w _ integers (rounded c.part) (λ q. q) v c.then in
     let i = rw h.same at (rounded_holds w h.row.form h.row.coefficients y.part) in
-    rw r.leads_to at (floor_fits _ _ r.cell_there (value_proper w (rounded c.part)) i (value_fits d y.part c.part h k same) r.decided_so)
+    rw r.leads_to at (floor_fits _ _ r.cell_there (value_proper w (rounded c.part)) i
+    (value_fits d y.part c.part h k same) r.decided_so)

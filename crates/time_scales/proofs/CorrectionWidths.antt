@@ -1,14 +1,18 @@
--- How narrow the values of ΔT are at each scale: computed for each year at the finest scale, and no wider at the others.
-use Rattle.std.specs.Prelude.{◌≡◌, ℕ, zero, suc, ◌+◌, ◌-◌, ◌*◌, ◌^◌, nat_le, nat_eq, ◌≤◌, ◌<◌, ℤ, pos, ◌+ℤ◌, ◌≤ℤ◌, ◌<ℤ◌, Bool, true, ◌&&◌, List, Option, Some, None, IfSome, refl}
+-- How narrow the values of ΔT are at each scale: computed for each year at the finest scale, and no wider at the
+-- others.
+use Rattle.std.specs.Prelude.{◌≡◌, ℕ, zero, suc, ◌+◌, ◌-◌, ◌*◌, ◌^◌, nat_le, nat_eq, ◌≤◌, ◌<◌, ℤ, pos, ◌+ℤ◌, ◌≤ℤ◌, ◌<ℤ◌}
+use Rattle.std.specs.Prelude.{Bool, true, ◌&&◌, List, Option, Some, None, IfSome, refl}
 use Rattle.std.specs.List.{list_all}
 use Rattle.std.specs.Option.{option_map_or}
 use Rattle.std.proofs.Common.{arith, subst, ◌⊎◌, inl, inr}
 use Rattle.std.proofs.lemmas.Int.{ints, by_lt_z}
 use Rattle.std.proofs.lemmas.Bool.{leb-true, eqb-true}
 use Rattle.book_model.specs.Interval.{Interval}
-use Rattle.book_model.specs.numbers.Bounds.{Bound, unbounded, Reach, IsNarrow, bound_of, implies, integer_bound, constant_bound, sum_bound, scaled_bound, limits_of}
+use Rattle.book_model.specs.numbers.Bounds.{Bound, unbounded, Reach, IsNarrow, bound_of, implies, integer_bound}
+use Rattle.book_model.specs.numbers.Bounds.{constant_bound, sum_bound, scaled_bound, limits_of}
 use Rattle.book_model.specs.calendars.Gregorian.{fixed_of, first_day, days_of_months}
-use Rattle.book_model.specs.sky.Correction.{Correction, corrections, row_of_year, int_power, polynomial_to, polynomial_of, seconds_of}
+use Rattle.book_model.specs.sky.Correction.{Correction, corrections, row_of_year, int_power, polynomial_to}
+use Rattle.book_model.specs.sky.Correction.{polynomial_of, seconds_of}
 use Rattle.book_model.specs.numbers.Relations.{Narrow}
 use Rattle.book_model.proofs.Implying.{settled_at}
 use Rattle.book_model.specs.declared.correction_rows.CorrectionForm.{CorrectionForm}
@@ -35,7 +39,8 @@ holds_below f (suc n) = f n && holds_below f n
 
 -- ΔT of a year by a form is at most so many units of 2^-bits wide
 unfoldable is_close : (units bits : ℕ) → CorrectionForm → List Frac → ℤ → Bool
-is_close units bits form cs y = implies (bound_of (limits_of bits) no_bound (computed_by form cs y)) (correction_bound units bits)
+is_close units bits form cs y = implies (bound_of (limits_of bits) no_bound (computed_by form cs y))
+    (correction_bound units bits)
 
 -- and so many units of 2^-56, by what each scale bears
 unfoldable is_finest : (units : ℕ) → CorrectionForm → List Frac → ℤ → Bool
@@ -63,14 +68,19 @@ unfolding holds_from
 holds_at f zero y z e h k = absurd (omega (arith, ints))
 holds_at f (suc n) y z e h k =
     let b = both (f y) (holds_from f (y +ℤ pos 1) n) e in
-    elim (same_or_later y z h) [ inl p ↦ subst (λ t. f t ≡ true) p b.0 | inr p ↦ holds_at f n (y +ℤ pos 1) z b.1 p (omega (arith, ints)) ]
+    elim (same_or_later y z h) [
+      | inl p ↦ subst (λ t. f t ≡ true) p b.0
+      | inr p ↦ holds_at f n (y +ℤ pos 1) z b.1 p
+          (omega (arith, ints))
+    ]
 
 pub holds_of : (f : ℕ → Bool) (n k : ℕ) → holds_below f n ≡ true → k < n → f k ≡ true
 unfolding holds_below
 holds_of f zero k e h = absurd (omega arith)
 holds_of f (suc n) k e h =
     let b = both (f n) (holds_below f n) e in
-    by_lt_z (pos k) (pos n) (λ l. holds_of f n k b.1 (omega (arith, ints))) (λ l. let p : n ≡ k = omega (arith, ints) in subst (λ t. f t ≡ true) p b.0)
+    by_lt_z (pos k) (pos n) (λ l. holds_of f n k b.1 (omega (arith, ints))) (λ l. let p : n ≡ k = omega (arith, ints) in
+    subst (λ t. f t ≡ true) p b.0)
 
 -- ---- the scales from 2^-36 to 2^-56
 -- the unit of a scale k bits finer than 2^-36, and what it bears
@@ -128,21 +138,27 @@ row_close row u n y c a b h k =
     (correction_bound u t) ≡ true) p f
 
 -- ΔT that keeps its computed bound is close
-close : {E : Type 0} (shown : E → Interval) (u n : ℕ) (y : ℤ) (form : CorrectionForm) (cs : List Frac) (e : E) → is_close u n form cs y ≡ true
-    → ((r : Reach) → Narrow shown (limits_of n) r (computed_by form cs y) e) → IsNarrow 0 (correction_bound u n) (shown e)
+close : {E : Type 0} (shown : E → Interval) (u n : ℕ) (y : ℤ) (form : CorrectionForm) (cs : List Frac) (e : E)
+    → is_close u n form cs y ≡ true
+    → ((r : Reach) → Narrow shown (limits_of n) r (computed_by form cs y) e)
+    → IsNarrow 0 (correction_bound u n) (shown e)
 unfolding is_close
-close shown u n y form cs e c f = settled_at shown n 0 no_bound (computed_by form cs y) (correction_bound u n) e c (f (record { width = 0; bounds = no_bound }))
+close shown u n y form cs e c f = settled_at shown n 0 no_bound (computed_by form cs y) (correction_bound u n) e c
+    (f (record { width = 0; bounds = no_bound }))
 
 by_units : {E : Type 0} (shown : E → Interval) (n : ℕ) (y : ℤ) (row : Correction) (e : E) (o : Option ℕ)
     → option_map_or (λ units. are_finest units row) o true ≡ true → 36 ≤ n → n ≤ 56 → row.first ≤ℤ y → y ≤ℤ row.last
     → ((r : Reach) → Narrow shown (limits_of n) r (computed_by row.form row.coefficients y) e)
     → IfSome o (λ units. IsNarrow 0 (correction_bound units n) (shown e))
 by_units shown n y row e None t a b h k f = tt
-by_units shown n y row e (Some u) t a b h k f = close shown u n y row.form row.coefficients e (row_close row u n y t a b h k) f
+by_units shown n y row e (Some u) t a b h k f = close shown u n y row.form row.coefficients e
+    (row_close row u n y t a b h k) f
 
 -- ΔT of a year is as close as its row promises
-pub year_is_close : {E : Type 0} (shown : E → Interval) (n : ℕ) (y : ℤ) (row : Correction) (e : E) → row_of_year y ≡ Some row → 36 ≤ n → n ≤ 56
+pub year_is_close : {E : Type 0} (shown : E → Interval) (n : ℕ) (y : ℤ) (row : Correction) (e : E)
+    → row_of_year y ≡ Some row → 36 ≤ n → n ≤ 56
     → ((r : Reach) → Narrow shown (limits_of n) r (computed_by row.form row.coefficients y) e)
     → IfSome row.units (λ units. IsNarrow 0 (correction_bound units n) (shown e))
 unfolding keeps_units
-year_is_close shown n y row e g a b f = let r = year_row keeps_units y row table_close g in by_units shown n y row e row.units r.passes a b r.from r.to f
+year_is_close shown n y row e g a b f = let r = year_row keeps_units y row table_close g in
+    by_units shown n y row e row.units r.passes a b r.from r.to f

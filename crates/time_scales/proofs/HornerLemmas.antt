@@ -1,5 +1,6 @@
 -- At one fraction, Horner's form and the sum of coefficients times powers have the same value.
-use Rattle.std.proofs.Common.{◌≡◌, ℕ, zero, suc, ◌+◌, ◌-◌, pos, refl, arith, add-one, List, [], ◌∷◌, length, slice_index_or}
+use Rattle.std.proofs.Common.{◌≡◌, ℕ, zero, suc, ◌+◌, ◌-◌, pos, refl, arith, add-one, List, [], ◌∷◌, length}
+use Rattle.std.proofs.Common.{slice_index_or}
 use Rattle.book_model.specs.Fraction.{Fraction, ◌≈◌, whole, plus, times, power}
 use Rattle.book_model.specs.Interval.{Interval, ◌⊆◌}
 use Rattle.book_model.proofs.FractionRing.{same_by}
@@ -29,7 +30,8 @@ unfoldable nest_to : List Frac → Fraction → ℕ → Fraction
 nest_to cs c zero = whole (pos 0)
 nest_to cs c (suc k) = plus (times (nest_to cs c k) c) (coefficient cs (length cs - suc k))
 
-sum_exact : (w : World) (cs : List Frac) (c : Fraction) (n : ℕ) → value w (polynomial_at_to cs c n) ≡ exactly (sum_to cs c n)
+sum_exact : (w : World) (cs : List Frac) (c : Fraction) (n : ℕ) → value w (polynomial_at_to cs c n) ≡ exactly
+    (sum_to cs c n)
 unfolding value polynomial_at_to sum_to
 sum_exact w cs c zero = refl
 sum_exact w cs c (suc n) = rw (sum_exact w cs c n, product_exactly (power c n) (coefficient cs n)) (sum_exactly _ _)
@@ -40,15 +42,18 @@ nest_exact w cs c zero = refl
 nest_exact w cs c (suc k) = rw (nest_exact w cs c k, product_exactly (nest_to cs c k) c) (sum_exactly _ _)
 
 -- the next term joins what is nested
-regrouped : (cs : List Frac) (c : Fraction) (k m : ℕ) → plus (sum_to cs c (suc m)) (times (power c (suc m)) (nest_to cs c k)) ≈ plus (sum_to cs c m)
+regrouped : (cs : List Frac) (c : Fraction) (k m : ℕ)
+    → plus (sum_to cs c (suc m)) (times (power c (suc m)) (nest_to cs c k)) ≈ plus (sum_to cs c m)
     (times (power c m) (plus (times (nest_to cs c k) c) (coefficient cs m)))
 unfolding sum_to power
 regrouped cs c k m =
-    same_by (sum_to cs c m ∷ power c m ∷ coefficient cs m ∷ c ∷ nest_to cs c k ∷ []) ((at 0 ⊕ at 1 ⊗ at 2) ⊕ (at 3 ⊗ at 1) ⊗ at 4)
+    same_by (sum_to cs c m ∷ power c m ∷ coefficient cs m ∷ c ∷ nest_to cs c k ∷ [])
+    ((at 0 ⊕ at 1 ⊗ at 2) ⊕ (at 3 ⊗ at 1) ⊗ at 4)
     (at 0 ⊕ at 1 ⊗ (at 4 ⊗ at 3 ⊕ at 2)) refl
 
 -- the sum is that of the first m terms and the m-th power times what the last k coefficients nest to
-split : (cs : List Frac) (c : Fraction) (k m : ℕ) → k + m ≡ length cs → sum_to cs c (length cs) ≈ plus (sum_to cs c m) (times (power c m) (nest_to cs c k))
+split : (cs : List Frac) (c : Fraction) (k m : ℕ) → k + m ≡ length cs → sum_to cs c (length cs) ≈ plus (sum_to cs c m)
+    (times (power c m) (nest_to cs c k))
 unfolding nest_to
 split cs c zero m e =
     let f : length cs ≡ m = omega (arith, e) in
@@ -62,16 +67,19 @@ split cs c (suc k) m e =
 same_number : (cs : List Frac) (c : Fraction) → sum_to cs c (length cs) ≈ nest_to cs c (length cs)
 unfolding sum_to power
 same_number cs c =
-    same_trans (split cs c (length cs) 0 (omega arith)) (same_by (nest_to cs c (length cs) ∷ []) (lit (pos 0) ⊕ lit (pos 1) ⊗ at 0) (at 0) refl)
+    same_trans (split cs c (length cs) 0 (omega arith))
+    (same_by (nest_to cs c (length cs) ∷ []) (lit (pos 0) ⊕ lit (pos 1) ⊗ at 0) (at 0) refl)
 
 pub values_same : (w : World) (cs : List Frac) (c : Fraction) → value w (polynomial_at cs c) ⊆ value w (horner_of cs c)
 unfolding polynomial_at horner_of
 values_same w cs c =
     let s = same_number cs c in
-    rw (sum_exact w cs c (length cs), nest_exact w cs c (length cs)) (record { endpoints = (ge_of_same s, le_of_same s) })
+    rw (sum_exact w cs c (length cs), nest_exact w cs c (length cs))
+    (record { endpoints = (ge_of_same s, le_of_same s) })
 
 -- what holds Horner's form holds the polynomial
-pub horner_holds : {E : Type 0} (shown : E → Interval) (w : World) (cs : List Frac) (c : Fraction) (e : E) → Within shown w (horner_of cs c) e
+pub horner_holds : {E : Type 0} (shown : E → Interval) (w : World) (cs : List Frac) (c : Fraction) (e : E)
+    → Within shown w (horner_of cs c) e
     → Within shown w (polynomial_at cs c) e
 unfolding Lies
 horner_holds shown w cs c e h = record { deep = h.deep; inside = within_trans (values_same w cs c) h.inside }

@@ -1,12 +1,14 @@
 -- How wide a polynomial at a fraction of at most some size is: computed of its coefficients.
-use Rattle.std.specs.Prelude.{◌≡◌, ℕ, zero, suc, ◌+◌, ◌*◌, ◌^◌, ◌≤◌, ◌<◌, Bool, true, false, ◌&&◌, nat_lt, unsigned_abs, pos, neg_ℤ, ◌≤ℤ◌, List, length, refl}
+use Rattle.std.specs.Prelude.{◌≡◌, ℕ, zero, suc, ◌+◌, ◌*◌, ◌^◌, ◌≤◌, ◌<◌, Bool, true, false, ◌&&◌, nat_lt, unsigned_abs}
+use Rattle.std.specs.Prelude.{pos, neg_ℤ, ◌≤ℤ◌, List, length, refl}
 use Rattle.std.proofs.Common.{arith}
 use Rattle.std.proofs.lemmas.Int.{ints}
 use Rattle.std.proofs.lemmas.Bool.{lt-ltb, ltb-true}
 use Rattle.book_model.specs.Fraction.{Fraction}
 use Rattle.book_model.specs.Interval.{Interval}
 use Rattle.book_model.specs.declared.frac.Frac.{Frac}
-use Rattle.book_model.specs.numbers.Bounds.{Bound, unbounded, Reach, bound_of, integer_bound, constant_bound, limits_at, limits_of, range_size, floor_at_32, ceil_at_32}
+use Rattle.book_model.specs.numbers.Bounds.{Bound, unbounded, Reach, bound_of, integer_bound, constant_bound, limits_at}
+use Rattle.book_model.specs.numbers.Bounds.{limits_of, range_size, floor_at_32, ceil_at_32}
 use Rattle.book_model.specs.numbers.Relations.{Narrow, Keeps}
 use Rattle.book_model.proofs.Implying.{limits_within}
 use Rattle.book_model.specs.programs.Widths.{IsAbout}
@@ -48,7 +50,8 @@ horner_covered cs f F zero b i e =
 horner_covered cs f F (suc k) b i e =
     let t = four (horner_fits cs F k) _ _ _ e in
     let p : horner_size cs F k < 2 ^ 62 = ltb-true _ _ t.1 in
-    let q : horner_size cs F k * F + range_size (floor_at_32 (coefficient_at cs k)) (ceil_at_32 (coefficient_at cs k)) < 2 ^ 100 = ltb-true _ _ t.2 in
+    let q : horner_size cs F k * F + range_size (floor_at_32 (coefficient_at cs k)) (ceil_at_32 (coefficient_at cs k))
+    < 2 ^ 100 = ltb-true _ _ t.2 in
     let r : unsigned_abs (coefficient_at cs k).num < 2 ^ 70 = ltb-true _ _ t.3 in
     let a = horner_covered cs f F k b i t.0 in
     wider_covered _ _ _ _ (omega arith)
@@ -57,7 +60,8 @@ horner_covered cs f F (suc k) b i e =
     (constant_covered (coefficient_at cs k) r (omega (arith, q))))
 
 -- what keeps the bound of Horner's form at such a fraction
-pub horner_within : {E : Type 0} (shown : E → Interval) (n : ℕ) (cs : List Frac) (f : Fraction) (F : ℕ) (e : E) → n ≡ 56 → HasSize F f
+pub horner_within : {E : Type 0} (shown : E → Interval) (n : ℕ) (cs : List Frac) (f : Fraction) (F : ℕ) (e : E) → n ≡ 56
+    → HasSize F f
     → horner_fits cs F (length cs) ≡ true → ((r : Reach) → Narrow shown (limits_of n) r (horner_of cs f) e)
     → IsAbout (horner_size cs F (length cs)) (horner_width F (length cs)) (shown e)
 unfolding Keeps horner_of

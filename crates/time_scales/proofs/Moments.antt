@@ -33,7 +33,8 @@ close_between i h = by h.around h.fits h.inside
     by everything f k = absurd (cc)
     by (between a b) f k =
         let t = both (is_at_most (whole (negsuc 199)) a) (is_at_most b (whole (pos 200))) f in
-        between_of_within (negsuc 199) (pos 200) i (within_trans k (record { endpoints = (at_most_true _ _ t.0, at_most_true _ _ t.1) }))
+        between_of_within (negsuc 199) (pos 200) i
+        (within_trans k (record { endpoints = (at_most_true _ _ t.0, at_most_true _ _ t.1) }))
 
 -- ΔT of a year is at most 200 days
 correction_between : (w : World) (y : ℤ) (c : Expression) → HasRow y c → IsBetween (negsuc 199) (pos 200) (value w c)
@@ -58,7 +59,8 @@ rows_of_table : list_all is_of_table corrections ≡ true
 unfolding corrections is_of_table first_day
 rows_of_table = refl
 
-tabled_cell : (y : ℤ) (c : Expression) (i : Interval) → HasRow y c → IsBetween (first_day y) (first_day (y +ℤ pos 1)) i → IsInTable i
+tabled_cell : (y : ℤ) (c : Expression) (i : Interval) → HasRow y c → IsBetween (first_day y) (first_day (y +ℤ pos 1)) i
+    → IsInTable i
 unfolding is_of_table
 tabled_cell y c i t h =
     let r = year_row is_of_table y t.row rows_of_table t.found in
@@ -71,7 +73,8 @@ tabled_cell y c i t h =
     wider (first_day y) (first_day (y +ℤ pos 1)) TABLE_START TABLE_END i (omega (arith, ints)) (omega (arith, ints)) h
 
 -- a moment whose ΔT has a value, and that value
-pub corrected_in_table : (w : World) (x c : Expression) → outcome (run w (correction_at x)) ≡ valued c → IsInTable (value w x)
+pub corrected_in_table : (w : World) (x c : Expression) → outcome (run w (correction_at x)) ≡ valued c
+    → IsInTable (value w x)
     × IsBetween (negsuc 199) (pos 200) (value w c)
 unfolding correction_at year_of
 corrected_in_table w x c e =
@@ -82,7 +85,8 @@ corrected_in_table w x c e =
     (tabled_cell y.part c (value w x) h (year_cell y.part (value w x) k), correction_between w y.part c h)
 
 -- a moment whose centuries have a value
-pub dated_in_table : (w : World) (x c : Expression) → outcome (run w (centuries_of x)) ≡ valued c → IsInTable (value w x)
+pub dated_in_table : (w : World) (x c : Expression) → outcome (run w (centuries_of x)) ≡ valued c
+    → IsInTable (value w x)
 unfolding centuries_of dynamical_of
 dated_in_table w x c e =
     let d = parts w (dynamical_of x) _ c e in
@@ -97,5 +101,6 @@ universal_between w x t e =
     let k = parts w (correction_at x) _ t e in
     let c = corrected_in_table w x k.part k.first in
     let b = difference_between TABLE_START TABLE_END (negsuc 199) (pos 200) _ _ c.0 c.1 in
-    rw (← valued_same w (subtract x k.part) t k.then) (wider _ _ (TABLE_START -ℤ pos 200) (TABLE_END +ℤ pos 200) _ (omega (arith, ints)) (omega (arith, ints))
+    rw (← valued_same w (subtract x k.part) t k.then) (wider _ _ (TABLE_START -ℤ pos 200) (TABLE_END +ℤ pos 200) _
+    (omega (arith, ints)) (omega (arith, ints))
     b)

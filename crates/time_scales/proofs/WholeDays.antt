@@ -1,5 +1,6 @@
 -- An enclosure of a whole day lies in its year.
-use Rattle.std.specs.Prelude.{◌≡◌, ℕ, ◌-◌, ◌*◌, ◌^◌, ◌≤◌, ◌<◌, nat_lt, nat_le, cond, Bool, true, false, ℤ, pos, ◌*ℤ◌, unsigned_abs, Some, FitsSigned, refl}
+use Rattle.std.specs.Prelude.{◌≡◌, ℕ, ◌-◌, ◌*◌, ◌^◌, ◌≤◌, ◌<◌, nat_lt, nat_le, cond, Bool, true, false, ℤ, pos, ◌*ℤ◌}
+use Rattle.std.specs.Prelude.{unsigned_abs, Some, FitsSigned, refl}
 use Rattle.std.proofs.Common.{arith, subst}
 use Rattle.std.proofs.lemmas.Int.{ints}
 use Rattle.std.specs.Int.{w64}
@@ -10,7 +11,8 @@ use Rattle.book_model.specs.Interval.{Interval, everything, between}
 use Rattle.book_model.proofs.Floors.{floor_mono, floor_quotient_is}
 use Rattle.book_model.specs.declared.fail.Fail.{Fail}
 use Rattle.book_model.specs.declared.fail.Fail.TheVariants.{Undecided as undecided_at, Void}
-use Rattle.book_model.specs.numbers.Bounds.{Reach, IsNarrow, unbounded, bounded, at_32, bound_of, integer_bound, limits_of}
+use Rattle.book_model.specs.numbers.Bounds.{Reach, IsNarrow, unbounded, bounded, at_32, bound_of, integer_bound}
+use Rattle.book_model.specs.numbers.Bounds.{limits_of}
 use Rattle.book_model.specs.calendars.Gregorian.{year_of_day}
 use Rattle.book_model.specs.numbers.Expressions.{integer}
 use Rattle.book_model.specs.sky.Facts.{IsValueDay}
@@ -24,7 +26,8 @@ use Rattle.time_scales.specs.Steps.{IsYearUndecidedFor, IsEarlyYearFor, IsNoEarl
 floor_of_day : (d : ℤ) → floor (at_32 (d *ℤ pos (2 ^ 32))) ≡ d
 floor_of_day d = let f = floor_quotient_is (d *ℤ pos (2 ^ 32)) (2 ^ 32 - 1) in omega (arith, ints, f.not_above, f.close)
 
-year_of_endpoints : (i : Interval) (d : ℤ) (w : ℕ) → IsNarrow w (bounded (d *ℤ pos (2 ^ 32)) (d *ℤ pos (2 ^ 32)) 0 0) i → cell_at years i ≡ Some (year_of_day d)
+year_of_endpoints : (i : Interval) (d : ℤ) (w : ℕ) → IsNarrow w (bounded (d *ℤ pos (2 ^ 32)) (d *ℤ pos (2 ^ 32)) 0 0) i
+    → cell_at years i ≡ Some (year_of_day d)
 unfolding IsNarrow cell_at cell_of
 year_of_endpoints everything d w h = absurd h
 year_of_endpoints (between lo hi) d w h =
@@ -42,7 +45,8 @@ small_at : (t : Bool) (n : ℕ) → n < 2 ^ 58 → nat_lt n (cond t (2 ^ 58) (2 
 small_at true n h = (Decides-ltb n (2 ^ 58)).1 h
 small_at false n h = (Decides-ltb n (2 ^ 100)).1 (omega (arith, h))
 
-pub year_enclosed : {E : Type 0} (shown : E → Interval) (bits : ℕ) (d : ℤ) (e : E) → 36 ≤ bits → bits ≤ 56 → IsValueDay d
+pub year_enclosed : {E : Type 0} (shown : E → Interval) (bits : ℕ) (d : ℤ) (e : E) → 36 ≤ bits → bits ≤ 56
+    → IsValueDay d
     → Narrow shown (limits_of bits) (record { width = 0; bounds = λ k. unbounded }) (integer d) e
     → cell_at years (shown e) ≡ Some (year_of_day d)
 unfolding Keeps bound_of integer_bound
@@ -51,7 +55,8 @@ year_enclosed shown bits d e a b h n =
     let kept = (rw (limits_within bits a b) at n).kept in
     year_of_endpoints (shown e) d 0 (rw small at kept)
 
-pub closed_year : (i : Interval) (y : ℤ) (f : Fail) → cell_at years i ≡ Some y → FitsSigned w64 y → IsYearUndecidedFor i f → IsNotOfYear f
+pub closed_year : (i : Interval) (y : ℤ) (f : Fail) → cell_at years i ≡ Some y → FitsSigned w64 y
+    → IsYearUndecidedFor i f → IsNotOfYear f
 closed_year i y (Void s) e g h = tt
 closed_year i y (undecided_at u) e g h = λ s. by (h s)
   where
@@ -60,10 +65,12 @@ closed_year i y (undecided_at u) e g h = λ s. by (h s)
     by (too_far q c n b) = let z : y ≡ q = cc in n (subst (λ t. FitsSigned w64 t) z g)
 
 -- of a whole day, no failure of the first three tests is at the year
-pub no_early_year : {E : Type 0} (shown : E → Interval) (bits : ℕ) (d : ℤ) (e : E) (f : Fail) → 36 ≤ bits → bits ≤ 56 → IsValueDay d
+pub no_early_year : {E : Type 0} (shown : E → Interval) (bits : ℕ) (d : ℤ) (e : E) (f : Fail) → 36 ≤ bits → bits ≤ 56
+    → IsValueDay d
     → ((k : Reach) → Narrow shown (limits_of bits) k (integer d) e)
     → IsEarlyYearFor (shown e) f → IsNoEarlyYear f
 no_early_year shown bits d e (Void s) p q h n o = tt
 no_early_year shown bits d e (undecided_at u) p q h n o = λ s t.
     let y = year_small d h in
-    closed_year (shown e) (year_of_day d) (undecided_at u) (year_enclosed shown bits d e p q h (n _)) (omega (arith, ints, y.0, y.1)) (λ z. o z t) s
+    closed_year (shown e) (year_of_day d) (undecided_at u) (year_enclosed shown bits d e p q h (n _))
+    (omega (arith, ints, y.0, y.1)) (λ z. o z t) s

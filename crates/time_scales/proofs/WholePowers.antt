@@ -4,7 +4,8 @@ use Rattle.std.proofs.Common.{zero, suc, arith}
 use Rattle.std.specs.Int.{w64}
 use Rattle.std.proofs.lemmas.Int.{fits_signed_mul, to_z-of_z}
 use Rattle.book_model.specs.sky.Correction.{int_power}
-use Rattle.book_model.proofs.Corrections.{polynomial_none, polynomial_more, polynomial_all, power_none, power_more, power_size}
+use Rattle.book_model.proofs.Corrections.{polynomial_none, polynomial_more, polynomial_all, power_none, power_more}
+use Rattle.book_model.proofs.Corrections.{power_size}
 
 -- the powers of 256 to the seventh fit 64 bits
 small_power : (i : ℕ) → i ≤ 6 → 256 ^ i * 256 < 2 ^ 63
@@ -23,4 +24,12 @@ power_fits x p i h k e =
     let s : unsigned_abs p ≤ 256 ^ i = rw e (power_size 256 x i h) in
     fits_signed_mul w64 p x (256 ^ i) 256 s h (small_power i k)
 
-pub ruleset polynomials = (polynomial_none, polynomial_more, polynomial_all, power_none, power_more, power_fits, to_z-of_z)
+pub ruleset polynomials = (
+  polynomial_none,
+  polynomial_more,
+  polynomial_all,
+  power_none,
+  power_more,
+  power_fits,
+  to_z-of_z,
+)

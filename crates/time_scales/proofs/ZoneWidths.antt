@@ -1,5 +1,7 @@
 -- How wide whole days, the hours of a zone and its moments are at the scale 2^-56; the steps of a zone.
-use Rattle.std.specs.Prelude.{◌≡◌, ℕ, ◌+◌, ◌-◌, ◌*◌, ◌^◌, ◌<◌, ◌≤◌, Bool, true, false, ◌&&◌, ℤ, pos, neg_ℤ, ◌*ℤ◌, nat_lt, int_lt, unsigned_abs, List, [], ◌∷◌, length, take, drop, slice_index_or, refl, if◌then◌else◌, ◌==◌}
+use Rattle.std.specs.Prelude.{◌≡◌, ℕ, ◌+◌, ◌-◌, ◌*◌, ◌^◌, ◌<◌, ◌≤◌, Bool, true, false, ◌&&◌, ℤ, pos, neg_ℤ, ◌*ℤ◌}
+use Rattle.std.specs.Prelude.{nat_lt, int_lt, unsigned_abs, List, [], ◌∷◌, length, take, drop, slice_index_or, refl}
+use Rattle.std.specs.Prelude.{if◌then◌else◌, ◌==◌}
 use Rattle.std.specs.List.{list_all}
 use Rattle.std.proofs.Common.{arith, subst, sym, ◌∙◌}
 use Rattle.std.proofs.Math.Seq.{take-length}
@@ -13,7 +15,8 @@ use Rattle.book_model.specs.declared.frac.Frac.{Frac}
 use Rattle.book_model.specs.declared.site.Site.TheVariants.{Zone}
 use Rattle.book_model.specs.declared.time_tables.TheConstants.{HOUR}
 use Rattle.book_model.specs.declared.zone.ZoneStep.{ZoneStep}
-use Rattle.book_model.specs.numbers.Bounds.{Bound, unbounded, bounded, Reach, bound_of, implies, limits_at, limits_of, integer_bound, constant_bound, sum_bound, difference_bound, scaled_bound}
+use Rattle.book_model.specs.numbers.Bounds.{Bound, unbounded, bounded, Reach, bound_of, implies, limits_at, limits_of}
+use Rattle.book_model.specs.numbers.Bounds.{integer_bound, constant_bound, sum_bound, difference_bound, scaled_bound}
 use Rattle.book_model.specs.numbers.Expressions.{Expression, argument, constant, integer, add, subtract, scale}
 use Rattle.book_model.specs.numbers.Fractions.{fraction_of}
 use Rattle.book_model.specs.numbers.Relations.{Narrow, Keeps}
@@ -38,7 +41,8 @@ others first later =
     sym (take-length later) ∙ (λ k. take (sym e k) later)
 
 -- ---- a whole day
-whole_bound : (d : ℤ) → IsMidnightDay d → bound_of (limits_at 56) (λ k. unbounded) (integer d) ≡ bounded (d *ℤ pos (2 ^ 32)) (d *ℤ pos (2 ^ 32)) 0 0
+whole_bound : (d : ℤ) → IsMidnightDay d → bound_of (limits_at 56) (λ k. unbounded) (integer d) ≡ bounded
+    (d *ℤ pos (2 ^ 32)) (d *ℤ pos (2 ^ 32)) 0 0
 unfolding bound_of integer_bound
 whole_bound d h =
     let p : nat_lt (unsigned_abs d * 2 ^ 32) (2 ^ 100) ≡ true = lt-ltb _ _ (omega (arith, ints, h.0, h.1)) in
@@ -52,23 +56,28 @@ whole_day_within shown n d x e h f =
     let l = limits_within n (omega arith) (omega arith) in
     let z = f (record { width = 0; bounds = λ k. unbounded }) in
     let b = whole_bound d h in
-    looser _ _ _ _ 0 0 _ (omega (arith, ints, h.0)) (omega (arith, ints, h.1)) (omega arith) (record { kept = rw (l, e, b) at z.kept })
+    looser _ _ _ _ 0 0 _ (omega (arith, ints, h.0)) (omega (arith, ints, h.1)) (omega arith)
+    (record { kept = rw (l, e, b) at z.kept })
 
 -- ---- the hours of a zone
 pub hours_within : {E : Type 0} (shown : E → Interval) (n m : ℕ) (f : Frac) (h : E) → n ≡ 56 → are_kept_hours m f ≡ true
     → ((r : Reach) → Narrow shown (limits_of n) r (constant (fraction_of f)) h) → IsUpTo m (2 ^ 8) (shown h)
 hours_within shown n m f h e k g =
-    measured shown n 0 (λ k. unbounded) (constant (fraction_of f)) _ _ 0 (2 ^ 8) (2 ^ 8) h e (both _ _ k).0 (omega arith)
+    measured shown n 0 (λ k. unbounded) (constant (fraction_of f)) _ _ 0 (2 ^ 8) (2 ^ 8) h e (both _ _ k).0
+    (omega arith)
     (g (record { width = 0; bounds = λ k. unbounded }))
 
 -- the day whose comparison with a moment tells which they are
-pub step_within : {E : Type 0} (shown : E → Interval) (n m : ℕ) (s : ZoneStep) (x : E) → n ≡ 56 → is_kept_step m s ≡ true
+pub step_within : {E : Type 0} (shown : E → Interval) (n m : ℕ) (s : ZoneStep) (x : E) → n ≡ 56
+    → is_kept_step m s ≡ true
     → ((r : Reach) → Narrow shown (limits_of n) r (integer s.before) x) → IsAbout (2 ^ 90) 0 (shown x)
-step_within shown n m s x e k f = measured shown n 0 (λ k. unbounded) (integer s.before) _ _ 0 0 0 x e (both _ _ k).1 (omega arith)
+step_within shown n m s x e k f = measured shown n 0 (λ k. unbounded) (integer s.before) _ _ 0 0 0 x e (both _ _ k).1
+    (omega arith)
     (f (record { width = 0; bounds = λ k. unbounded }))
 
 -- the hours of a day are hours of the zone
-pub hours_kept : (m : ℕ) (steps : List ZoneStep) (last : Frac) (d : ℤ) → is_kept_zone m steps last ≡ true → are_kept_hours m (hours_on steps last d) ≡ true
+pub hours_kept : (m : ℕ) (steps : List ZoneStep) (last : Frac) (d : ℤ) → is_kept_zone m steps last ≡ true
+    → are_kept_hours m (hours_on steps last d) ≡ true
 hours_kept m [] last d h = h
 hours_kept m (step ∷ steps) last d h =
     let b = both (list_all (is_kept_step m) (step ∷ steps)) _ h in
@@ -94,7 +103,8 @@ abbrev pub none : ZoneStep
 none = record { before = pos 0; hours = record { num = pos 0; den = 0 } }
 
 -- ---- the steps of a zone, by the first of them and the others
-pub no_step : (steps : List ZoneStep) (last : Frac) (x : Expression) → length steps < 1 → hours_at_of steps last x ≡ answer (constant (fraction_of last))
+pub no_step : (steps : List ZoneStep) (last : Frac) (x : Expression) → length steps < 1
+    → hours_at_of steps last x ≡ answer (constant (fraction_of last))
 unfolding hours_at_of
 no_step [] last x h = refl
 no_step (step ∷ later) last x h = absurd (omega (arith, h))
@@ -102,7 +112,8 @@ no_step (step ∷ later) last x h = absurd (omega (arith, h))
 pub first_step : (none : ZoneStep) (steps : List ZoneStep) (last : Frac) (x : Expression) → 1 ≤ length steps
     → hours_at_of steps last x
     ≡ bind (compare Zone x (integer (slice_index_or steps 0 none).before) answer)
-    (λ early. if early then answer (constant (fraction_of (slice_index_or steps 0 none).hours)) else hours_at_of (take (length steps - 1) (drop 1 steps))
+    (λ early. if early then answer (constant (fraction_of (slice_index_or steps 0 none).hours))
+    else hours_at_of (take (length steps - 1) (drop 1 steps))
     last x)
 unfolding hours_at_of
 first_step none [] last x h = absurd (omega (arith, h))
@@ -115,59 +126,76 @@ no_step_on [] last d h = refl
 no_step_on (step ∷ later) last d h = absurd (omega (arith, h))
 
 pub first_step_on : (none : ZoneStep) (steps : List ZoneStep) (last : Frac) (d : ℤ) → 1 ≤ length steps
-    → hours_on steps last d ≡ (if int_lt d (slice_index_or steps 0 none).before then (slice_index_or steps 0 none).hours else hours_on
+    → hours_on steps last d ≡ (if int_lt d (slice_index_or steps 0 none).before then (slice_index_or steps 0 none).hours
+    else hours_on
     (take (length steps - 1) (drop 1 steps)) last d)
 first_step_on none [] last d h = absurd (omega (arith, h))
-first_step_on none (step ∷ later) last d h = λ j. if int_lt d step.before then step.hours else hours_on (others step later j) last d
+first_step_on none (step ∷ later) last d h = λ j. if int_lt d step.before then step.hours
+    else hours_on (others step later j) last d
 
 -- what is kept of a zone is kept of its first step and of the others
 pub record AreKeptSteps (none : ZoneStep) (m : ℕ) (steps : List ZoneStep) (last : Frac) : Type 0 where
   pub first : is_kept_step m (slice_index_or steps 0 none) ≡ true
   pub later : is_kept_zone m (take (length steps - 1) (drop 1 steps)) last ≡ true
 
-pub kept_steps : (none : ZoneStep) (m : ℕ) (steps : List ZoneStep) (last : Frac) → 1 ≤ length steps → is_kept_zone m steps last ≡ true
+pub kept_steps : (none : ZoneStep) (m : ℕ) (steps : List ZoneStep) (last : Frac) → 1 ≤ length steps
+    → is_kept_zone m steps last ≡ true
     → AreKeptSteps none m steps last
 kept_steps none m [] last h k = absurd (omega (arith, h))
 kept_steps none m (step ∷ later) last h k =
     let b = both (list_all (is_kept_step m) (step ∷ later)) _ k in
     let s = both (is_kept_step m step) _ b.0 in
-    record { first = s.0; later = subst (λ z. is_kept_zone m z last ≡ true) (others step later) (both_hold _ _ s.1 b.1) }
+    record {
+      first = s.0;
+      later = subst (λ z. is_kept_zone m z last ≡ true) (others step later)
+          (both_hold _ _ s.1 b.1);
+    }
 
-pub last_kept : (m : ℕ) (steps : List ZoneStep) (last : Frac) → is_kept_zone m steps last ≡ true → are_kept_hours m last ≡ true
+pub last_kept : (m : ℕ) (steps : List ZoneStep) (last : Frac) → is_kept_zone m steps last ≡ true
+    → are_kept_hours m last ≡ true
 last_kept m steps last k = (both (list_all (is_kept_step m) steps) _ k).1
 
 -- ---- a moment and the hours
 abbrev moment_bounds : ℕ → Bound
-moment_bounds k = if k == 0 then bounded (neg_ℤ (pos (2 ^ 58))) (pos (2 ^ 58)) (2 ^ 40) 0 else bounded (pos 0) (pos (24 * 2 ^ 32)) 0 (2 ^ 8)
+moment_bounds k = if k == 0 then bounded (neg_ℤ (pos (2 ^ 58))) (pos (2 ^ 58)) (2 ^ 40) 0
+    else bounded (pos 0) (pos (24 * 2 ^ 32)) 0 (2 ^ 8)
 
 later_reach : implies (bound_of (limits_at 56) moment_bounds (add (argument 0) (scale (fraction_of HOUR) (argument 1))))
     (bounded (neg_ℤ (pos (2 ^ 59))) (pos (2 ^ 59)) (2 ^ 40) (3 * 2 ^ 8)) ≡ true
 unfolding implies bound_of sum_bound scaled_bound
 later_reach = refl
 
-pub later_within : {E : Type 0} (shown : E → Interval) (n v : ℕ) (t h y : E) → n ≡ 56 → IsMoment v (shown t) → IsUpTo 24 (2 ^ 8) (shown h)
+pub later_within : {E : Type 0} (shown : E → Interval) (n v : ℕ) (t h y : E) → n ≡ 56 → IsMoment v (shown t)
+    → IsUpTo 24 (2 ^ 8) (shown h)
     → ((r : Reach) (p q : Expression) → Narrow shown (limits_of n) r p t → Narrow shown (limits_of n) r q h
     → Narrow shown (limits_of n) r (add p (scale (fraction_of HOUR) q)) y) → IsAbout (2 ^ 59) (v + 3 * 2 ^ 8) (shown y)
 later_within shown n v t h y e i k f =
-    measured shown n v moment_bounds (add (argument 0) (scale (fraction_of HOUR) (argument 1))) _ _ (2 ^ 40) (3 * 2 ^ 8) (v + 3 * 2 ^ 8) y e later_reach
+    measured shown n v moment_bounds (add (argument 0) (scale (fraction_of HOUR) (argument 1))) _ _ (2 ^ 40) (3 * 2 ^ 8)
+    (v + 3 * 2 ^ 8) y e later_reach
     (omega arith)
     (f (record { width = v; bounds = moment_bounds }) (argument 0) (argument 1)
-    (sloped shown (limits_of n) v v moment_bounds 0 (neg_ℤ (pos (2 ^ 58))) (pos (2 ^ 58)) (2 ^ 40) 0 t refl (omega arith) i)
+    (sloped shown (limits_of n) v v moment_bounds 0 (neg_ℤ (pos (2 ^ 58))) (pos (2 ^ 58)) (2 ^ 40) 0 t refl
+    (omega arith) i)
     (sloped shown (limits_of n) v (2 ^ 8) moment_bounds 1 (pos 0) (pos (24 * 2 ^ 32)) 0 (2 ^ 8) h refl (omega arith) k))
 
 abbrev day_bounds : ℕ → Bound
-day_bounds k = if k == 0 then bounded (neg_ℤ (pos (40000001 * 2 ^ 32))) (pos (40000001 * 2 ^ 32)) 0 0 else bounded (pos 0) (pos (24 * 2 ^ 32)) 0 (2 ^ 8)
+day_bounds k = if k == 0 then bounded (neg_ℤ (pos (40000001 * 2 ^ 32))) (pos (40000001 * 2 ^ 32)) 0 0
+    else bounded (pos 0) (pos (24 * 2 ^ 32)) 0 (2 ^ 8)
 
-midnight_reach : implies (bound_of (limits_at 56) day_bounds (subtract (argument 0) (scale (fraction_of HOUR) (argument 1))))
+midnight_reach : implies
+    (bound_of (limits_at 56) day_bounds (subtract (argument 0) (scale (fraction_of HOUR) (argument 1))))
     (bounded (neg_ℤ (pos (2 ^ 58))) (pos (2 ^ 58)) 0 (3 * 2 ^ 8)) ≡ true
 unfolding implies bound_of difference_bound scaled_bound
 midnight_reach = refl
 
-pub midnight_within : {E : Type 0} (shown : E → Interval) (n : ℕ) (x h y : E) → n ≡ 56 → IsAbout (40000001 * 2 ^ 32) 0 (shown x) → IsUpTo 24 (2 ^ 8) (shown h)
+pub midnight_within : {E : Type 0} (shown : E → Interval) (n : ℕ) (x h y : E) → n ≡ 56
+    → IsAbout (40000001 * 2 ^ 32) 0 (shown x) → IsUpTo 24 (2 ^ 8) (shown h)
     → ((r : Reach) (p q : Expression) → Narrow shown (limits_of n) r p x → Narrow shown (limits_of n) r q h
     → Narrow shown (limits_of n) r (subtract p (scale (fraction_of HOUR) q)) y) → IsMoment (3 * 2 ^ 8) (shown y)
 midnight_within shown n x h y e i k f =
-    measured shown n 0 day_bounds (subtract (argument 0) (scale (fraction_of HOUR) (argument 1))) _ _ 0 (3 * 2 ^ 8) (3 * 2 ^ 8) y e midnight_reach (omega arith)
+    measured shown n 0 day_bounds (subtract (argument 0) (scale (fraction_of HOUR) (argument 1))) _ _ 0 (3 * 2 ^ 8)
+    (3 * 2 ^ 8) y e midnight_reach (omega arith)
     (f (record { width = 0; bounds = day_bounds }) (argument 0) (argument 1)
-    (sloped shown (limits_of n) 0 0 day_bounds 0 (neg_ℤ (pos (40000001 * 2 ^ 32))) (pos (40000001 * 2 ^ 32)) 0 0 x refl (omega arith) i)
+    (sloped shown (limits_of n) 0 0 day_bounds 0 (neg_ℤ (pos (40000001 * 2 ^ 32))) (pos (40000001 * 2 ^ 32)) 0 0 x refl
+    (omega arith) i)
     (sloped shown (limits_of n) 0 (2 ^ 8) day_bounds 1 (pos 0) (pos (24 * 2 ^ 32)) 0 (2 ^ 8) h refl (omega arith) k))

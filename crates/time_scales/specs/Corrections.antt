@@ -1,7 +1,8 @@
 -- What is computed by each row of the table of ΔT.
 use Rattle.std.specs.Prelude.{ℕ, ◌-◌, ◌*◌, ◌^◌, ◌≤◌, ℤ, pos, negsuc, ◌-ℤ◌, ◌≤ℤ◌, unsigned_abs, List, Option, Some, None}
 use Rattle.book_model.specs.declared.correction_rows.CorrectionForm.{CorrectionForm}
-use Rattle.book_model.specs.declared.correction_rows.CorrectionForm.TheVariants.{SecondsSince, SecondsByHundreds, DaysByCenturies}
+use Rattle.book_model.specs.declared.correction_rows.CorrectionForm.TheVariants.{SecondsSince, SecondsByHundreds}
+use Rattle.book_model.specs.declared.correction_rows.CorrectionForm.TheVariants.{DaysByCenturies}
 use Rattle.book_model.specs.declared.frac.Frac.{Frac}
 use Rattle.book_model.specs.declared.tables.TheConstants.{SECOND}
 use Rattle.book_model.specs.numbers.Bounds.{Bound, bounded}
@@ -11,7 +12,8 @@ use Rattle.book_model.specs.numbers.Fractions.{fraction_of}
 use Rattle.book_model.specs.sky.Time.{hundreds_of, centuries_to_july}
 use Rattle.time_scales.specs.Horner.{horner_of}
 
--- a form with so many coefficients can be computed of a year: its powers fit 64 bits, or its July is one of the calendar's
+-- a form with so many coefficients can be computed of a year: its powers fit 64 bits, or its July is one of the
+-- calendar's
 abbrev pub IsFormYear : CorrectionForm → ℕ → ℤ → Type 0
 IsFormYear (SecondsSince origin) n y = (n ≤ 7) × (unsigned_abs (y -ℤ origin) ≤ 256)
 IsFormYear SecondsByHundreds n y = Unit {0}

@@ -1,5 +1,6 @@
 -- A polynomial at an exact fraction, from the inside out.
-use Rattle.std.specs.Prelude.{ℕ, zero, suc, ◌+◌, ◌-◌, ◌*◌, ◌^◌, pos, Bool, true, ◌&&◌, nat_lt, unsigned_abs, List, length, slice_index_or}
+use Rattle.std.specs.Prelude.{ℕ, zero, suc, ◌+◌, ◌-◌, ◌*◌, ◌^◌, pos, Bool, true, ◌&&◌, nat_lt, unsigned_abs, List}
+use Rattle.std.specs.Prelude.{length, slice_index_or}
 use Rattle.book_model.specs.Fraction.{Fraction}
 use Rattle.book_model.specs.declared.frac.Frac.{Frac}
 use Rattle.book_model.specs.numbers.Bounds.{range_size, floor_at_32, ceil_at_32}
@@ -10,7 +11,8 @@ use Rattle.book_model.specs.numbers.Expressions.{Expression, integer, constant, 
 -- the last k coefficients in Horner's form
 unfoldable pub horner_to : List Frac → Fraction → ℕ → Expression
 horner_to cs c zero = integer (pos 0)
-horner_to cs c (suc k) = add (scale c (horner_to cs c k)) (constant (fraction_of (slice_index_or cs (length cs - suc k) no_fraction)))
+horner_to cs c (suc k) = add (scale c (horner_to cs c k))
+    (constant (fraction_of (slice_index_or cs (length cs - suc k) no_fraction)))
 
 -- all coefficients in Horner's form
 unfoldable pub horner_of : List Frac → Fraction → Expression
@@ -23,7 +25,8 @@ coefficient_at cs k = fraction_of (slice_index_or cs (length cs - suc k) no_frac
 -- how large the last k coefficients nested are at a fraction of at most the size F, in 2^-32
 unfoldable pub horner_size : List Frac → (F : ℕ) → ℕ → ℕ
 horner_size cs F zero = 0
-horner_size cs F (suc k) = horner_size cs F k * F + range_size (floor_at_32 (coefficient_at cs k)) (ceil_at_32 (coefficient_at cs k))
+horner_size cs F (suc k) = horner_size cs F k * F + range_size (floor_at_32 (coefficient_at cs k))
+    (ceil_at_32 (coefficient_at cs k))
 
 -- and how wide at the scale 2^-56, in 2^-64: each step makes it F times as wide, and three units
 unfoldable pub horner_width : (F : ℕ) → ℕ → ℕ

@@ -76,7 +76,8 @@ unfolding coefficient times flipped opposite
 start_high = record { above = record { cross = record { le = tt } }; below = record { cross = record { le = tt } } }
 
 pub innermost : (w : ℕ) → Keeps 2881 w 0 2881
-innermost w C u v z i s n = step_near 2881 w 0 0 C u v (record { not_above = omega arith; close = omega arith }) (omega arith) (omega arith) z i s n
+innermost w C u v z i s n = step_near 2881 w 0 0 C u v (record { not_above = omega arith; close = omega arith })
+    (omega arith) (omega arith) z i s n
 
 nested_is : (u s : Fraction)
     → step_at (ratio 0) u (step_at (ratio 1) u (step_at (ratio 2) u
@@ -107,10 +108,12 @@ unfolding coefficient
 coefficient_next k N = refl
 
 on : (k c w t z : ℕ) (u N : Fraction) → Keeps c w t z → zero_F ≤F u → IsCut c (coefficient k) → IsSquare w u
-    → IsWithinUnits 320 t (times (coefficient (suc k)) N) → IsWithinUnits 320 z (times (coefficient k) (step_at (ratio k) u N))
+    → IsWithinUnits 320 t (times (coefficient (suc k)) N)
+    → IsWithinUnits 320 z (times (coefficient k) (step_at (ratio k) u N))
 on k c w t z u N f p i s n = next c w t z (coefficient k) (ratio k) u N f p i s (rw (coefficient_next k N) at n)
 
-chained : (w j i h g f e d c b a : ℕ) (u s : Fraction) → Chain w j i h g f e d c b a → zero_F ≤F u → IsSquare w u → IsWithinUnits 320 0 (eleventh s)
+chained : (w j i h g f e d c b a : ℕ) (u s : Fraction) → Chain w j i h g f e d c b a → zero_F ≤F u → IsSquare w u
+    → IsWithinUnits 320 0 (eleventh s)
     → IsWithinUnits 320 a (nested u ratio s 9)
 chained w j i h g f e d c b a u s k z q n =
     let n9 = next 2881 w 0 j (coefficient 9) (ratio 9) u s k.k9 z cut_9 q n in
@@ -125,20 +128,25 @@ chained w j i h g f e d c b a u s k z q n =
     let n0 = on 0 18446744073709551615 w b a u _ k.k0 z cut_0 q n1 in
     rw (← nested_is u s) (near_same 320 a _ _ (one_times _) n0)
 
-cosine_endpoints : (e x : Fraction) → times (cosine_term x 0) (inner e (times x x) ratio 9) ≈ nested (times x x) ratio (flipped e 9) 9
+cosine_endpoints : (e x : Fraction) → times (cosine_term x 0) (inner e (times x x) ratio 9) ≈ nested (times x x) ratio
+    (flipped e 9) 9
 cosine_endpoints e x =
     same_trans (times_cong (cosine_one x) (inner_nested 9 e (times x x) ratio))
     (same_by (nested (times x x) ratio (flipped e 9) 9 ∷ []) (lit (pos 1) ⊗ at 0) (at 0) refl)
 
-pub low_is : (x : Fraction) → IsUpTo 4 5 x → nested (times x x) ratio (flipped (whole (negsuc 1)) 9) 9 ≤F lower (cosine_term x) 9
+pub low_is : (x : Fraction) → IsUpTo 4 5 x → nested (times x x) ratio (flipped (whole (negsuc 1)) 9) 9 ≤F lower
+    (cosine_term x) 9
 low_is x h =
     rw (lower_is_beneath (cosine_term x) 9 ((cosine_halving x h).nonneg 9))
-    (ge_of_same (same_trans (beneath_is 9 (cosine_term x) (times x x) ratio (cosine_step_from_first x)) (cosine_endpoints (whole (negsuc 1)) x)))
+    (ge_of_same (same_trans (beneath_is 9 (cosine_term x) (times x x) ratio (cosine_step_from_first x))
+    (cosine_endpoints (whole (negsuc 1)) x)))
 
-pub high_is : (x : Fraction) → IsUpTo 4 5 x → upper (cosine_term x) 9 ≤F nested (times x x) ratio (flipped (whole (pos 2)) 9) 9
+pub high_is : (x : Fraction) → IsUpTo 4 5 x → upper (cosine_term x) 9 ≤F nested (times x x) ratio
+    (flipped (whole (pos 2)) 9) 9
 high_is x h =
     rw (upper_is_atop (cosine_term x) 9 ((cosine_halving x h).nonneg 9))
-    (le_of_same (same_trans (atop_is 9 (cosine_term x) (times x x) ratio (cosine_step_from_first x)) (cosine_endpoints (whole (pos 2)) x)))
+    (le_of_same (same_trans (atop_is 9 (cosine_term x) (times x x) ratio (cosine_step_from_first x))
+    (cosine_endpoints (whole (pos 2)) x)))
 
 deeper : (k : ℕ) (x : Fraction) (s : ℕ) → IsUpTo 4 5 x → AreCosineEndpoints x s 9 → AreCosineEndpoints x s (k + 9)
 deeper zero x s h a = a
@@ -148,16 +156,22 @@ deeper (suc k) x s h a =
     let e : suc k + 9 ≡ suc (suc (k + 8)) = omega arith in
     let f : k + 9 ≡ suc (k + 8) = omega arith in
     let g = rw f at b in
-    rw e (record { low = le_trans _ (lower (cosine_term x) (suc (k + 8))) _ g.low n.0; high = le_trans _ (upper (cosine_term x) (suc (k + 8))) _ n.1 g.high })
+    rw e (record {
+      low = le_trans _ (lower (cosine_term x) (suc (k + 8))) _ g.low n.0;
+      high = le_trans _
+          (upper (cosine_term x) (suc (k + 8))) _ n.1 g.high;
+    })
 
-pub cosine_near : (n angle w j i h g f e d c b a : ℕ) (x : Fraction) → 9 ≤ n → angle ≤ 14757395258967641292 → IsHigh w angle angle → IsAngle angle x
+pub cosine_near : (n angle w j i h g f e d c b a : ℕ) (x : Fraction) → 9 ≤ n → angle ≤ 14757395258967641292
+    → IsHigh w angle angle → IsAngle angle x
     → Chain w j i h g f e d c b a → AreCosineEndpoints x a n
 cosine_near n angle w j i h g f e d c b a x l small p t k =
     let u = angle_fifths angle x t in
     let z = square_nonneg x u in
     let y = square_near w angle x small p t in
     let q : n ≡ (n - 9) + 9 = omega (arith, l) in
-    let v = λ (r : Fraction) (m : IsWithinUnits 320 0 (eleventh r)). chained w j i h g f e d c b a (times x x) r k z y m in
+    let v = λ (r : Fraction) (m : IsWithinUnits 320 0 (eleventh r)). chained w j i h g f e d c b a (times x x) r k z y m
+    in
     rw q (deeper (n - 9) x a u
     (record {
       low = le_trans _ _ _ (v (flipped (whole (negsuc 1)) 9) start_low).above (low_is x u);

@@ -3,7 +3,8 @@ use Rattle.std.specs.Prelude.{◌≡◌, ℕ, ◌+◌, ◌*◌, ◌/◌, ◌^◌
 use Rattle.std.proofs.Common.{arith}
 use Rattle.std.proofs.lemmas.Int.{ints}
 use Rattle.book_model.specs.Interval.{Interval}
-use Rattle.book_model.specs.numbers.Bounds.{Bound, bounded, Limits, Reach, bound_of, limits_of, spanned_bound, sine_spans, cosine_spans}
+use Rattle.book_model.specs.numbers.Bounds.{Bound, bounded, Limits, Reach, bound_of, limits_of, spanned_bound}
+use Rattle.book_model.specs.numbers.Bounds.{sine_spans, cosine_spans}
 use Rattle.book_model.specs.numbers.Expressions.{Expression, argument, sine, cosine}
 use Rattle.book_model.specs.numbers.Relations.{Narrow, Keeps}
 use Rattle.book_model.specs.programs.Widths.{IsAbout}
@@ -35,16 +36,23 @@ cosine_kept shown n v y e z =
     let l = limits_within n (omega arith) (omega arith) in
     record { kept = rw (l, e) at z.kept }
 
-parts_within : (v : ℕ) (i : Interval) → IsAbout (2 ^ 32) ((v + 56) / 57 + 36 * 2 ^ 8 + 2 * 2 ^ 8) i → IsAbout (2 ^ 32) (v / 57 + 2 ^ 14) i
-parts_within v i h = looser _ _ _ _ ((v + 56) / 57 + 36 * 2 ^ 8 + 2 * 2 ^ 8) (v / 57 + 2 ^ 14) i (omega (arith, ints)) (omega (arith, ints)) (omega arith) h
+parts_within : (v : ℕ) (i : Interval) → IsAbout (2 ^ 32) ((v + 56) / 57 + 36 * 2 ^ 8 + 2 * 2 ^ 8) i
+    → IsAbout (2 ^ 32) (v / 57 + 2 ^ 14) i
+parts_within v i h = looser _ _ _ _ ((v + 56) / 57 + 36 * 2 ^ 8 + 2 * 2 ^ 8) (v / 57 + 2 ^ 14) i (omega (arith, ints))
+    (omega (arith, ints)) (omega arith) h
 
 pub sine_within : {E : Type 0} (shown : E → Interval) (n v : ℕ) (x y : E) → n ≡ 56 → IsAbout (2 ^ 94) v (shown x)
-    → ((r : Reach) (a : Expression) → Narrow shown (limits_of n) r a x → Narrow shown (limits_of n) r (sine a) y) → IsAbout (2 ^ 32) (v / 57 + 2 ^ 14) (shown y)
+    → ((r : Reach) (a : Expression) → Narrow shown (limits_of n) r a x → Narrow shown (limits_of n) r (sine a) y)
+    → IsAbout (2 ^ 32) (v / 57 + 2 ^ 14) (shown y)
 sine_within shown n v x y e h f =
-    parts_within v _ (sine_kept shown n v y e (f (record { width = 0; bounds = any_degrees v }) (argument 0) (degrees_kept shown (limits_of n) v x h)))
+    parts_within v _
+    (sine_kept shown n v y e (f (record { width = 0; bounds = any_degrees v }) (argument 0)
+    (degrees_kept shown (limits_of n) v x h)))
 
 pub cosine_within : {E : Type 0} (shown : E → Interval) (n v : ℕ) (x y : E) → n ≡ 56 → IsAbout (2 ^ 94) v (shown x)
     → ((r : Reach) (a : Expression) → Narrow shown (limits_of n) r a x → Narrow shown (limits_of n) r (cosine a) y)
     → IsAbout (2 ^ 32) (v / 57 + 2 ^ 14) (shown y)
 cosine_within shown n v x y e h f =
-    parts_within v _ (cosine_kept shown n v y e (f (record { width = 0; bounds = any_degrees v }) (argument 0) (degrees_kept shown (limits_of n) v x h)))
+    parts_within v _
+    (cosine_kept shown n v y e (f (record { width = 0; bounds = any_degrees v }) (argument 0)
+    (degrees_kept shown (limits_of n) v x h)))

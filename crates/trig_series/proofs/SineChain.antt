@@ -22,16 +22,23 @@ step_at r u s = plus (whole (pos 1)) (opposite (times (times u r) s))
 
 -- what one step multiplies out to
 stepped : (C r U N : Fraction) → plus C (opposite (times U (times (times C r) N))) ≈ times C (step_at r U N)
-stepped C r U N = same_by (C ∷ r ∷ U ∷ N ∷ []) (at 0 ⊖ at 2 ⊗ ((at 0 ⊗ at 1) ⊗ at 3)) (at 0 ⊗ (lit (pos 1) ⊖ (at 2 ⊗ at 1) ⊗ at 3)) refl
+stepped C r U N = same_by (C ∷ r ∷ U ∷ N ∷ []) (at 0 ⊖ at 2 ⊗ ((at 0 ⊗ at 1) ⊗ at 3))
+    (at 0 ⊗ (lit (pos 1) ⊖ (at 2 ⊗ at 1) ⊗ at 3)) refl
 
 pub near_same : (e t : ℕ) (x y : Fraction) → x ≈ y → IsWithinUnits e t x → IsWithinUnits e t y
-near_same e t x y s n = record { above = le_trans _ x y n.above (le_of_same s); below = le_trans y x _ (ge_of_same s) n.below }
+near_same e t x y s n = record {
+  above = le_trans _ x y n.above (le_of_same s);
+  below = le_trans y x _ (ge_of_same s)
+      n.below;
+}
 
 -- what the code's step keeps
 abbrev pub Keeps : (coefficient square inner result : ℕ) → Type 0
-Keeps c w t k = (C u v : Fraction) → zero_F ≤F u → IsCut c C → IsSquare w u → IsWithinUnits 320 t v → IsWithinUnits 320 k (plus C (opposite (times u v)))
+Keeps c w t k = (C u v : Fraction) → zero_F ≤F u → IsCut c C → IsSquare w u → IsWithinUnits 320 t v
+    → IsWithinUnits 320 k (plus C (opposite (times u v)))
 
-pub next : (c w t k : ℕ) (C r u N : Fraction) → Keeps c w t k → zero_F ≤F u → IsCut c C → IsSquare w u → IsWithinUnits 320 t (times (times C r) N)
+pub next : (c w t k : ℕ) (C r u N : Fraction) → Keeps c w t k → zero_F ≤F u → IsCut c C → IsSquare w u
+    → IsWithinUnits 320 t (times (times C r) N)
     → IsWithinUnits 320 k (times C (step_at r u N))
 next c w t k C r u N f z i s n = near_same 320 k _ _ (stepped C r u N) (f C u (times (times C r) N) z i s n)
 
@@ -51,13 +58,16 @@ flipped e (suc n) = flipped (opposite e) n
 
 pub inner_nested : (n : ℕ) (e u : Fraction) (r : ℕ → Fraction) → inner e u r n ≈ nested u r (flipped e n) n
 unfolding inner nested flipped
-inner_nested zero e u r = same_by (e ∷ u ∷ r 0 ∷ []) (lit (pos 1) ⊕ at 0 ⊗ (at 1 ⊗ at 2)) (lit (pos 1) ⊖ (at 1 ⊗ at 2) ⊗ minus (at 0)) refl
+inner_nested zero e u r = same_by (e ∷ u ∷ r 0 ∷ []) (lit (pos 1) ⊕ at 0 ⊗ (at 1 ⊗ at 2))
+    (lit (pos 1) ⊖ (at 1 ⊗ at 2) ⊗ minus (at 0)) refl
 inner_nested (suc n) e u r =
-    plus_cong (same_refl (whole (pos 1))) (opposite_cong (times_cong (same_refl (times u (r 0))) (inner_nested n (opposite e) u (λ k. r (suc k)))))
+    plus_cong (same_refl (whole (pos 1)))
+    (opposite_cong (times_cong (same_refl (times u (r 0))) (inner_nested n (opposite e) u (λ k. r (suc k)))))
 
 -- the sine's endpoints at depth 8 are the angle times what the chain gives
 pub sine_endpoints : (e x : Fraction)
-    → times (sine_term x 0) (inner e (times x x) (λ k. falling (sine_index k)) 8) ≈ times x (nested (times x x) (λ k. falling (sine_index k)) (flipped e 8) 8)
+    → times (sine_term x 0) (inner e (times x x) (λ k. falling (sine_index k)) 8) ≈ times x
+    (nested (times x x) (λ k. falling (sine_index k)) (flipped e 8) 8)
 sine_endpoints e x = times_cong (sine_first x) (inner_nested 8 e (times x x) (λ k. falling (sine_index k)))
 
 -- ---- the sine's coefficients in 64 bits
@@ -114,11 +124,13 @@ start_high = record { above = record { cross = record { le = tt } }; below = rec
 
 -- ---- the chain
 pub innermost : (w : ℕ) → Keeps 51862 w 0 51862
-innermost w C u v z i s n = step_near 51862 w 0 0 C u v (record { not_above = omega arith; close = omega arith }) (omega arith) (omega arith) z i s n
+innermost w C u v z i s n = step_near 51862 w 0 0 C u v (record { not_above = omega arith; close = omega arith })
+    (omega arith) (omega arith) z i s n
 
 nested_is : (u s : Fraction)
     → step_at (ratio 0) u (step_at (ratio 1) u (step_at (ratio 2) u
-    (step_at (ratio 3) u (step_at (ratio 4) u (step_at (ratio 5) u (step_at (ratio 6) u (step_at (ratio 7) u (step_at (ratio 8) u s))))))))
+    (step_at (ratio 3) u
+    (step_at (ratio 4) u (step_at (ratio 5) u (step_at (ratio 6) u (step_at (ratio 7) u (step_at (ratio 8) u s))))))))
     ≡ nested u ratio s 8
 unfolding nested
 nested_is u s = refl
@@ -147,10 +159,12 @@ unfolding coefficient
 coefficient_next k N = refl
 
 on : (k c w t z : ℕ) (u N : Fraction) → Keeps c w t z → zero_F ≤F u → IsCut c (coefficient k) → IsSquare w u
-    → IsWithinUnits 320 t (times (coefficient (suc k)) N) → IsWithinUnits 320 z (times (coefficient k) (step_at (ratio k) u N))
+    → IsWithinUnits 320 t (times (coefficient (suc k)) N)
+    → IsWithinUnits 320 z (times (coefficient k) (step_at (ratio k) u N))
 on k c w t z u N f p i s n = next c w t z (coefficient k) (ratio k) u N f p i s (rw (coefficient_next k N) at n)
 
-pub chained : (w i h g f e d c b a : ℕ) (u s : Fraction) → Chain w i h g f e d c b a → zero_F ≤F u → IsSquare w u → IsWithinUnits 320 0 (tenth s)
+pub chained : (w i h g f e d c b a : ℕ) (u s : Fraction) → Chain w i h g f e d c b a → zero_F ≤F u → IsSquare w u
+    → IsWithinUnits 320 0 (tenth s)
     → IsWithinUnits 320 a (nested u ratio s 8)
 chained w i h g f e d c b a u s k z q n =
     let n8 = next 51862 w 0 i (coefficient 8) (ratio 8) u s k.k8 z cut_8 q n in
@@ -165,15 +179,19 @@ chained w i h g f e d c b a u s k z q n =
     rw (← nested_is u s) (near_same 320 a _ _ (one_times _) n0)
 
 -- ---- the endpoints of the sum, at depth 8 and deeper
-pub low_is : (x : Fraction) → IsUpTo 4 5 x → times x (nested (times x x) ratio (flipped (whole (negsuc 1)) 8) 8) ≤F lower (sine_term x) 8
+pub low_is : (x : Fraction) → IsUpTo 4 5 x → times x (nested (times x x) ratio (flipped (whole (negsuc 1)) 8) 8) ≤F
+    lower (sine_term x) 8
 low_is x h =
     rw (lower_is_beneath (sine_term x) 8 ((sine_halving x h).nonneg 9))
-    (ge_of_same (same_trans (beneath_is 8 (sine_term x) (times x x) ratio (sine_step x)) (sine_endpoints (whole (negsuc 1)) x)))
+    (ge_of_same (same_trans (beneath_is 8 (sine_term x) (times x x) ratio (sine_step x))
+    (sine_endpoints (whole (negsuc 1)) x)))
 
-pub high_is : (x : Fraction) → IsUpTo 4 5 x → upper (sine_term x) 8 ≤F times x (nested (times x x) ratio (flipped (whole (pos 2)) 8) 8)
+pub high_is : (x : Fraction) → IsUpTo 4 5 x
+    → upper (sine_term x) 8 ≤F times x (nested (times x x) ratio (flipped (whole (pos 2)) 8) 8)
 high_is x h =
     rw (upper_is_atop (sine_term x) 8 ((sine_halving x h).nonneg 9))
-    (le_of_same (same_trans (atop_is 8 (sine_term x) (times x x) ratio (sine_step x)) (sine_endpoints (whole (pos 2)) x)))
+    (le_of_same (same_trans (atop_is 8 (sine_term x) (times x x) ratio (sine_step x))
+    (sine_endpoints (whole (pos 2)) x)))
 
 deeper : (k : ℕ) (x : Fraction) (s : ℕ) → IsUpTo 4 5 x → AreSineEndpoints x s 8 → AreSineEndpoints x s (k + 8)
 deeper zero x s h a = a
@@ -181,12 +199,18 @@ deeper (suc k) x s h a =
     let b = deeper k x s h a in
     let n = sums_nested (k + 8) (sine_term x) (sine_halving x h) in
     let e : suc k + 8 ≡ suc (k + 8) = omega arith in
-    rw e (record { low = le_trans _ (lower (sine_term x) (k + 8)) _ b.low n.0; high = le_trans _ (upper (sine_term x) (k + 8)) _ n.1 b.high })
+    rw e (record {
+      low = le_trans _ (lower (sine_term x) (k + 8)) _ b.low n.0;
+      high = le_trans _
+          (upper (sine_term x) (k + 8)) _ n.1 b.high;
+    })
 
-pub endpoints_from : (n : ℕ) (x : Fraction) (s : ℕ) → 8 ≤ n → IsUpTo 4 5 x → AreSineEndpoints x s 8 → AreSineEndpoints x s n
+pub endpoints_from : (n : ℕ) (x : Fraction) (s : ℕ) → 8 ≤ n → IsUpTo 4 5 x → AreSineEndpoints x s 8
+    → AreSineEndpoints x s n
 endpoints_from n x s l h a = let e : n ≡ (n - 8) + 8 = omega (arith, l) in rw e (deeper (n - 8) x s h a)
 
-pub sine_near : (n angle w i h g f e d c b a s : ℕ) (x : Fraction) → 8 ≤ n → angle ≤ 14757395258967641292 → a ≤ 2 ^ 64 → IsHigh w angle angle
+pub sine_near : (n angle w i h g f e d c b a s : ℕ) (x : Fraction) → 8 ≤ n → angle ≤ 14757395258967641292 → a ≤ 2 ^ 64
+    → IsHigh w angle angle
     → IsHigh s angle a → IsAngle angle x
     → Chain w i h g f e d c b a → AreSineEndpoints x s n
 sine_near n angle w i h g f e d c b a s x l small top p q t k =
@@ -197,5 +221,6 @@ sine_near n angle w i h g f e d c b a s x l small top p q t k =
     endpoints_from n x s l u
     (record {
       low = le_trans _ _ _ (product_above s angle a x _ q t (v (flipped (whole (negsuc 1)) 8) start_low)) (low_is x u);
-      high = le_trans _ _ _ (high_is x u) (product_below s angle a x _ top q t (v (flipped (whole (pos 2)) 8) start_high));
+      high = le_trans _ _ _ (high_is x u)
+          (product_below s angle a x _ top q t (v (flipped (whole (pos 2)) 8) start_high));
     })

@@ -76,12 +76,14 @@ pub record IsSmall (lo hi : ℤ) : Type 0 where
   pub above : neg_ℤ (pos (2 ^ 60)) ≤ℤ lo
   pub below : hi ≤ℤ pos (2 ^ 60)
 
--- the sine of what lies between two endpoints of degrees: it lies in -1..1, it is hardly wider than a 57th of the endpoints'
--- width, near 0 degrees it is near 0, near 90 degrees near 1, and inside an octant it is as the octant's endpoints say
+-- the sine of what lies between two endpoints of degrees: it lies in -1..1, it is hardly wider than a 57th of the
+-- endpoints' width, near 0 degrees it is near 0, near 90 degrees near 1, and inside an octant it is as the octant's
+-- endpoints say
 pub record IsNarrowSine (from to lo hi : ℤ) : Type 0 where
   pub above : neg_ℤ ONE ≤ℤ lo
   pub below : hi ≤ℤ ONE
-  pub narrow : neg_ℤ (pos (2 ^ 120)) ≤ℤ from → to ≤ℤ pos (2 ^ 120) → (pos 57 *ℤ (hi -ℤ lo)) ≤ℤ ((to -ℤ from) +ℤ pos 2052)
+  pub narrow : neg_ℤ (pos (2 ^ 120)) ≤ℤ from → to ≤ℤ pos (2 ^ 120)
+      → (pos 57 *ℤ (hi -ℤ lo)) ≤ℤ ((to -ℤ from) +ℤ pos 2052)
   pub small : (a : ℤ) → neg_ℤ a ≤ℤ from → to ≤ℤ a → a <ℤ pos OCTANT → IsAround (pos 0) a lo hi
   pub crest : (a : ℤ) → (QUARTER -ℤ a) ≤ℤ from → to ≤ℤ (QUARTER +ℤ a) → a <ℤ pos OCTANT → IsCrest a lo
   pub inside : neg_ℤ (pos (2 ^ 120)) ≤ℤ from → to ≤ℤ pos (2 ^ 120) → (k : ℤ) → IsInside k from to
@@ -91,7 +93,10 @@ pub record IsNarrowSine (from to lo hi : ℤ) : Type 0 where
 pub record IsNarrowCosine (from to lo hi : ℤ) : Type 0 where
   pub above : neg_ℤ ONE ≤ℤ lo
   pub below : hi ≤ℤ ONE
-  pub narrow : neg_ℤ (pos (2 ^ 119)) ≤ℤ from → to ≤ℤ pos (2 ^ 119) → (pos 57 *ℤ (hi -ℤ lo)) ≤ℤ ((to -ℤ from) +ℤ pos 2052)
+  pub narrow : neg_ℤ (pos (2 ^ 119)) ≤ℤ from → to ≤ℤ pos (2 ^ 119)
+      → (pos 57 *ℤ (hi -ℤ lo)) ≤ℤ ((to -ℤ from) +ℤ pos 2052)
   pub crest : (a : ℤ) → neg_ℤ a ≤ℤ from → to ≤ℤ a → a <ℤ pos OCTANT → IsCrest a lo
-  pub inside : neg_ℤ (pos (2 ^ 119)) ≤ℤ from → to ≤ℤ pos (2 ^ 119) → (k : ℤ) → IsInside k (from +ℤ QUARTER) (to +ℤ QUARTER)
-      → IsPart (octant_of_turn k) (unsigned_abs ((from +ℤ QUARTER) -ℤ k *ℤ pos OCTANT)) (unsigned_abs ((to +ℤ QUARTER) -ℤ k *ℤ pos OCTANT)) lo hi
+  pub inside : neg_ℤ (pos (2 ^ 119)) ≤ℤ from → to ≤ℤ pos (2 ^ 119) → (k : ℤ)
+      → IsInside k (from +ℤ QUARTER) (to +ℤ QUARTER)
+      → IsPart (octant_of_turn k) (unsigned_abs ((from +ℤ QUARTER) -ℤ k *ℤ pos OCTANT))
+      (unsigned_abs ((to +ℤ QUARTER) -ℤ k *ℤ pos OCTANT)) lo hi

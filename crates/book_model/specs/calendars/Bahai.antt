@@ -1,7 +1,8 @@
--- The Bahá'í calendar by the sunset of Tehran: a year begins on the day by whose sunset, with which it begins on the evening
--- before, the sun has passed the spring equinox. It has 19 months of 19 days; before the last come the four or five days of
--- Ayyám-i-Há, which count as month 0. Reingold and Dershowitz, Calendrical Calculations, chapter 16. The fields of a result that
--- their types don't hold are clamped to the nearest bounds, so that the rules have an answer over every table.
+-- The Bahá'í calendar by the sunset of Tehran: a year begins on the day by whose sunset, with which it begins on the
+-- evening before, the sun has passed the spring equinox. It has 19 months of 19 days; before the last come the four or
+-- five days of Ayyám-i-Há, which count as month 0. Reingold and Dershowitz, Calendrical Calculations, chapter 16. The
+-- fields of a result that their types don't hold are clamped to the nearest bounds, so that the rules have an answer
+-- over every table.
 use Rattle.std.specs.Prelude.{if◌then◌else◌, [], ◌∷◌, ℤ, pos, negsuc, ◌+ℤ◌, ◌-ℤ◌, ◌*ℤ◌, int_le}
 use Rattle.std.specs.Ordering.{int_eq}
 use Rattle.book_model.specs.declared.bahai.BahaiMonth.{BahaiMonth}
@@ -37,8 +38,8 @@ years_before first = years_of_days (first -ℤ BAHAI_EPOCH)
 abbrev pub month_of_19_days : (base number : ℤ) → BahaiMonth
 month_of_19_days base number = record { number = number; first_day = base +ℤ pos 19 *ℤ (number -ℤ pos 1) }
 
--- the month of a day, by the first day that was asked of the day, that of its year and that of the next: the nineteenth month is
--- the last 19 days of the year, Ayyám-i-Há what comes between it and the eighteenth
+-- the month of a day, by the first day that was asked of the day, that of its year and that of the next: the nineteenth
+-- month is the last 19 days of the year, Ayyám-i-Há what comes between it and the eighteenth
 unfoldable pub bahai_month : (day first base next : ℤ) → BahaiMonth
 bahai_month day first base next =
     if int_le (next -ℤ pos 19) day then record { number = pos 19; first_day = next -ℤ pos 19 }
@@ -50,7 +51,8 @@ unfoldable pub bahai_fields : (day passed : ℤ) → BahaiMonth → Fields
 bahai_fields day passed month =
     record {
       count = 5;
-      values = to_32_bits (quotient_down passed 361 +ℤ pos 1) ∷ (quotient_down (modulo passed 361) 19 +ℤ pos 1) ∷ (modulo passed 19 +ℤ pos 1)
+      values = to_32_bits (quotient_down passed 361 +ℤ pos 1) ∷ (quotient_down (modulo passed 361) 19 +ℤ pos 1)
+          ∷ (modulo passed 19 +ℤ pos 1)
           ∷ to_8_bits month.number ∷ to_8_bits (day -ℤ month.first_day +ℤ pos 1) ∷ [];
     }
 
@@ -67,8 +69,8 @@ bahai_on day =
 abbrev pub bahai_year : (major cycle year : ℤ) → ℤ
 bahai_year major cycle year = pos 361 *ℤ (major -ℤ pos 1) +ℤ pos 19 *ℤ (cycle -ℤ pos 1) +ℤ year
 
--- from where a month of a year is counted: the nineteenth back from the first day of the next year, the others from that of the
--- year, Ayyám-i-Há behind eighteen months of 19 days
+-- from where a month of a year is counted: the nineteenth back from the first day of the next year, the others from
+-- that of the year, Ayyám-i-Há behind eighteen months of 19 days
 unfoldable pub month_start : (number month : ℤ) → MonthStart
 month_start number month =
     if int_eq month (pos 19) then record { passed = number; days = negsuc 18 }

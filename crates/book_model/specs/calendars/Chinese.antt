@@ -1,9 +1,10 @@
--- The Chinese calendar by the sky of Beijing: a month begins on the day of a new moon, the month of the winter solstice is
--- the eleventh, and where twelve months lie between two of these, the first without a major solar term is a leap month.
--- Reingold and Dershowitz, Calendrical Calculations, chapter 19; Aslaksen, The Mathematics of the Chinese Calendar.
--- The fields of a result that their types don't hold are clamped to the nearest bounds, so that the rules have an answer over
--- every table.
-use Rattle.std.specs.Prelude.{ℕ, zero, suc, ◌&&◌, if◌then◌else◌, Bool, true, false, not, [], ◌∷◌, ℤ, pos, ◌+ℤ◌, ◌-ℤ◌, ◌*ℤ◌, int_lt}
+-- The Chinese calendar by the sky of Beijing: a month begins on the day of a new moon, the month of the winter solstice
+-- is the eleventh, and where twelve months lie between two of these, the first without a major solar term is a leap
+-- month. Reingold and Dershowitz, Calendrical Calculations, chapter 19; Aslaksen, The Mathematics of the Chinese
+-- Calendar. The fields of a result that their types don't hold are clamped to the nearest bounds, so that the rules
+-- have an answer over every table.
+use Rattle.std.specs.Prelude.{ℕ, zero, suc, ◌&&◌, if◌then◌else◌, Bool, true, false, not, [], ◌∷◌, ℤ, pos, ◌+ℤ◌, ◌-ℤ◌}
+use Rattle.std.specs.Prelude.{◌*ℤ◌, int_lt}
 use Rattle.std.specs.Ordering.{int_eq}
 use Rattle.book_model.specs.declared.calendar_tables.TheConstants.{CHINESE_EPOCH, TROPICAL_YEAR}
 use Rattle.book_model.specs.declared.chinese.ChineseMonth.{ChineseMonth}
@@ -58,8 +59,8 @@ is_leap_sui sui =
     done (int_eq (months_between sui.first_month eleventh) (pos 12))
 
 -- ---- leap months
--- whether a month, by the day on which it begins, has no major solar term: the last one when it begins is still the last when
--- the next month begins
+-- whether a month, by the day on which it begins, has no major solar term: the last one when it begins is still the
+-- last when the next month begins
 unfoldable pub bare : ℤ → Inquiry Bool
 bare month =
     ask (major_fact month) λ term.
@@ -67,8 +68,8 @@ bare month =
     ask (major_fact next) λ next_term.
     done (int_eq term next_term)
 
--- Whether a month, or one before it as far as the first of its sui, has no major term: those before it are asked first, and it
--- itself only where each of them has one. So many calls are made, and one more answers no.
+-- Whether a month, or one before it as far as the first of its sui, has no major term: those before it are asked first,
+-- and it itself only where each of them has one. So many calls are made, and one more answers no.
 unfoldable pub prior : ℕ → ℤ → ℤ → Inquiry Bool
 prior zero first month = done false
 prior (suc calls) first month =
@@ -77,12 +78,13 @@ prior (suc calls) first month =
     and_then (prior calls first before) λ found.
     if found then done true else bare month)
 
--- whether a month of a sui is its leap month or comes after it, given whether the sui has one: of fifteen months, since a sui
--- has thirteen at most
+-- whether a month of a sui is its leap month or comes after it, given whether the sui has one: of fifteen months, since
+-- a sui has thirteen at most
 unfoldable pub is_from_leap_month : Bool → ℤ → ℤ → Inquiry Bool
 is_from_leap_month leap_sui first month = if leap_sui then prior 15 first month else done false
 
--- whether a month of a sui is its leap month, given whether the sui has one: it has no major term, and each before it has one
+-- whether a month of a sui is its leap month, given whether the sui has one: it has no major term, and each before it
+-- has one
 unfoldable pub is_leap_month : Bool → ℤ → ℤ → Inquiry Bool
 is_leap_month leap_sui first month =
     if not leap_sui then done false else (
@@ -93,14 +95,18 @@ is_leap_month leap_sui first month =
     done (not found)))
 
 -- ---- dates
--- the number of a month, from the first of its sui and whether it comes after the leap month or is it: the first of a sui is the
--- twelfth of a year
+-- the number of a month, from the first of its sui and whether it comes after the leap month or is it: the first of a
+-- sui is the twelfth of a year
 unfoldable pub month_number : ℤ → ℤ → Bool → ℤ
 month_number first month from_leap = amod (months_between first month -ℤ flag from_leap) 12
 
 -- a month by the first of its sui, whether it comes after the leap month or is it, and whether it is it
 unfoldable pub month_by : ℤ → ℤ → Bool → Bool → ChineseMonth
-month_by first month from_leap is_leap = record { first_day = month; number = month_number first month from_leap; is_leap = is_leap }
+month_by first month from_leap is_leap = record {
+  first_day = month;
+  number = month_number first month from_leap;
+  is_leap = is_leap;
+}
 
 -- a month of a sui
 unfoldable pub month_in : Sui → Bool → ℤ → Inquiry ChineseMonth
@@ -126,7 +132,8 @@ abbrev pub chinese_fields : ℤ → ChineseMonth → ℤ → Fields
 chinese_fields day month years =
     record {
       count = 5;
-      values = to_32_bits (quotient_down (years -ℤ pos 1) 60 +ℤ pos 1) ∷ amod years 60 ∷ month.number ∷ flag month.is_leap ∷ to_8_bits
+      values = to_32_bits (quotient_down (years -ℤ pos 1) 60 +ℤ pos 1) ∷ amod years 60 ∷ month.number
+          ∷ flag month.is_leap ∷ to_8_bits
           (day -ℤ month.first_day +ℤ pos 1) ∷ [];
     }
 
@@ -142,8 +149,8 @@ is_leap_at_start leap_sui first second =
     and_then (bare first) λ found.
     if found then done true else bare second)
 
--- the first day of the year that begins in the sui of a day: its second month, or the one after where the leap month is one of
--- the first two
+-- the first day of the year that begins in the sui of a day: its second month, or the one after where the leap month is
+-- one of the first two
 unfoldable pub new_year_in_sui : ℤ → Inquiry ℤ
 new_year_in_sui day =
     and_then (sui_of day) λ sui.

@@ -1,6 +1,7 @@
 -- The calendars, by their rows: which dates they may have, the number of a date's year, and which dates are answered as
 -- far as that can be told without any fact; the day that a date names, and the date of a day.
-use Rattle.std.specs.Prelude.{ℕ, zero, suc, ◌&&◌, ◌==◌, nat_le, Bool, true, false, [], ◌∷◌, IsTrue, ℤ, pos, ◌+ℤ◌, ◌*ℤ◌, ◌≤ℤ◌, unsigned_abs, slice_index_or}
+use Rattle.std.specs.Prelude.{ℕ, zero, suc, ◌&&◌, ◌==◌, nat_le, Bool, true, false, [], ◌∷◌, IsTrue, ℤ, pos, ◌+ℤ◌, ◌*ℤ◌}
+use Rattle.std.specs.Prelude.{◌≤ℤ◌, unsigned_abs, slice_index_or}
 use Rattle.std.specs.Ordering.{int_eq}
 use denote.Enum.Declared.{tag_of}
 use lib.Pointwise.{pointwise}
@@ -50,13 +51,15 @@ field f k = unsigned_abs (field_at f k)
 
 -- a field lies within its limits
 abbrev pub is_within : CalendarRow → Fields → ℕ → Bool
-is_within row f k = nat_le (slice_index_or row.limits k (0, 0)).0 (field f k) && nat_le (field f k) (slice_index_or row.limits k (0, 0)).1
+is_within row f k = nat_le (slice_index_or row.limits k (0, 0)).0 (field f k) && nat_le (field f k)
+    (slice_index_or row.limits k (0, 0)).1
 
 -- each field lies within its limits
 abbrev pub are_within : CalendarRow → Fields → Bool
 are_within row f = is_within row f 0 && is_within row f 1 && is_within row f 2 && is_within row f 3 && is_within row f 4
 
--- the month has the day: those of the Gregorian calendar differ in length from year to year as well, which it tells without any fact
+-- the month has the day: those of the Gregorian calendar differ in length from year to year as well, which it tells
+-- without any fact
 abbrev pub has_day_of_month : Calendar → Fields → Bool
 has_day_of_month Gregorian f = is_date (field f 0) (field f 1) (field f 2)
 has_day_of_month c f = true
@@ -117,7 +120,11 @@ one_field z = record { count = 1; values = to_32_bits z ∷ pos 0 ∷ pos 0 ∷ 
 
 -- the Gregorian date of a day: year, month and day
 unfoldable pub gregorian_fields_on : ℤ → Fields
-gregorian_fields_on day = record { count = 3; values = to_32_bits (year_of_day day) ∷ pos (month_of_day day) ∷ pos (day_of_month day) ∷ pos 0 ∷ pos 0 ∷ [] }
+gregorian_fields_on day = record {
+  count = 3;
+  values = to_32_bits (year_of_day day) ∷ pos (month_of_day day)
+      ∷ pos (day_of_month day) ∷ pos 0 ∷ pos 0 ∷ [];
+}
 
 -- whether two dates have the same fields
 abbrev pub are_same_fields : Fields → Fields → Bool
@@ -128,14 +135,20 @@ abbrev pub day_named : Calendar → Fields → Inquiry ℤ
 day_named Gregorian f = done (gregorian_day f)
 day_named Fixed f = done (fixed_day f)
 day_named calendars.Persian f = persian_day (pos (field f 0)) (pos (field f 1)) (pos (field f 2))
-day_named calendars.Bahai f = bahai_day (pos (field f 0)) (pos (field f 1)) (pos (field f 2)) (pos (field f 3)) (pos (field f 4))
-day_named calendars.Chinese f = chinese_day (pos (field f 0)) (pos (field f 1)) (pos (field f 2)) (pos (field f 3)) (pos (field f 4))
-day_named calendars.Vietnamese f = at_place Hanoi (chinese_day (pos (field f 0)) (pos (field f 1)) (pos (field f 2)) (pos (field f 3)) (pos (field f 4)))
-day_named calendars.Korean f = at_place Seoul (chinese_day (pos (field f 0)) (pos (field f 1)) (pos (field f 2)) (pos (field f 3)) (pos (field f 4)))
-day_named calendars.Japanese f = at_place Tokyo (chinese_day (pos (field f 0)) (pos (field f 1)) (pos (field f 2)) (pos (field f 3)) (pos (field f 4)))
+day_named calendars.Bahai f = bahai_day (pos (field f 0)) (pos (field f 1)) (pos (field f 2)) (pos (field f 3))
+    (pos (field f 4))
+day_named calendars.Chinese f = chinese_day (pos (field f 0)) (pos (field f 1)) (pos (field f 2)) (pos (field f 3))
+    (pos (field f 4))
+day_named calendars.Vietnamese f = at_place Hanoi (chinese_day (pos (field f 0)) (pos (field f 1)) (pos (field f 2))
+    (pos (field f 3)) (pos (field f 4)))
+day_named calendars.Korean f = at_place Seoul (chinese_day (pos (field f 0)) (pos (field f 1)) (pos (field f 2))
+    (pos (field f 3)) (pos (field f 4)))
+day_named calendars.Japanese f = at_place Tokyo (chinese_day (pos (field f 0)) (pos (field f 1)) (pos (field f 2))
+    (pos (field f 3)) (pos (field f 4)))
 day_named calendars.Islamic f = islamic_day (pos (field f 0)) (pos (field f 1)) (pos (field f 2))
 day_named calendars.HinduSolar f = hindu_solar_day (pos (field f 0)) (pos (field f 1)) (pos (field f 2))
-day_named calendars.HinduLunar f = hindu_lunar_day (pos (field f 0)) (pos (field f 1)) (pos (field f 2)) (pos (field f 3)) (pos (field f 4))
+day_named calendars.HinduLunar f = hindu_lunar_day (pos (field f 0)) (pos (field f 1)) (pos (field f 2))
+    (pos (field f 3)) (pos (field f 4))
 day_named calendars.French f = french_day (pos (field f 0)) (pos (field f 1)) (pos (field f 2))
 day_named calendars.HebrewObserved f = hebrew_day (pos (field f 0)) (pos (field f 1)) (pos (field f 2))
 

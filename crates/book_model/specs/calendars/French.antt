@@ -1,6 +1,7 @@
--- The French calendar of the Revolution by the equinox: a year begins on the day at whose end, at apparent midnight in Paris, the sun
--- has come to the autumnal equinox. The fields of a result that their types don't hold are clamped to the nearest bounds, so that the
--- rules have an answer over every table. Reingold and Dershowitz, Calendrical Calculations, chapter 17.
+-- The French calendar of the Revolution by the equinox: a year begins on the day at whose end, at apparent midnight in
+-- Paris, the sun has come to the autumnal equinox. The fields of a result that their types don't hold are clamped to
+-- the nearest bounds, so that the rules have an answer over every table. Reingold and Dershowitz, Calendrical
+-- Calculations, chapter 17.
 use Rattle.std.specs.Prelude.{[], ◌∷◌, ℤ, pos, ◌+ℤ◌, ◌-ℤ◌, ◌*ℤ◌}
 use Rattle.book_model.specs.declared.calendar_tables.TheConstants.{FRENCH_EPOCH}
 use Rattle.book_model.specs.declared.fact.Fact.{Fact}
@@ -22,13 +23,14 @@ mid_year_day year = FRENCH_EPOCH +ℤ pos 180 +ℤ days_of_years (year -ℤ pos 
 unfoldable pub year_begun : ℤ → ℤ
 year_begun first = pos 1 +ℤ years_of_days (first -ℤ FRENCH_EPOCH)
 
--- year, month and day, by the year and the days of it that are over: a month has 30 days, and the last five or six days of a year
--- count as a month of their own
+-- year, month and day, by the year and the days of it that are over: a month has 30 days, and the last five or six days
+-- of a year count as a month of their own
 unfoldable pub french_fields : (year over : ℤ) → Fields
 french_fields year over =
     record {
       count = 3;
-      values = to_32_bits year ∷ to_8_bits (quotient_down over 30 +ℤ pos 1) ∷ (modulo over 30 +ℤ pos 1) ∷ pos 0 ∷ pos 0 ∷ [];
+      values = to_32_bits year ∷ to_8_bits (quotient_down over 30 +ℤ pos 1) ∷ (modulo over 30 +ℤ pos 1) ∷ pos 0 ∷ pos 0
+          ∷ [];
     }
 
 -- the French date of a day (R.D.)

@@ -1,7 +1,8 @@
--- The Hebrew calendar by observation: a month begins on the day on whose evening before the crescent is first seen, at Haifa by
--- Shaukat's criterion, and Nisan is the month about the spring equinox. Months are counted from Nisan; the number of the year changes
--- with Tishri, the seventh. That number is counted by this project. The fields of a result that their types don't hold are clamped to
--- the nearest bounds, so that the rules have an answer over every table. Reingold and Dershowitz, Calendrical Calculations, chapter 18.
+-- The Hebrew calendar by observation: a month begins on the day on whose evening before the crescent is first seen, at
+-- Haifa by Shaukat's criterion, and Nisan is the month about the spring equinox. Months are counted from Nisan; the
+-- number of the year changes with Tishri, the seventh. That number is counted by this project. The fields of a result
+-- that their types don't hold are clamped to the nearest bounds, so that the rules have an answer over every table.
+-- Reingold and Dershowitz, Calendrical Calculations, chapter 18.
 use Rattle.std.specs.Prelude.{if◌then◌else◌, [], ◌∷◌, ℤ, pos, ◌+ℤ◌, ◌-ℤ◌, int_le, int_lt}
 use Rattle.exact_math.specs.Fraction.{whole, times, reciprocal}
 use Rattle.book_model.specs.declared.calendar_tables.TheConstants.{OBSERVED_MONTH, TISHRI, WORLD_ERA}
@@ -41,16 +42,23 @@ month_begun days = observed_months_of days +ℤ pos 1
 -- year, month and day, by the Gregorian year in which Nisan came last, the month and the day
 unfoldable pub hebrew_fields : (nisan_year month day : ℤ) → Fields
 hebrew_fields nisan_year month day =
-    record { count = 3; values = to_32_bits (nisan_year +ℤ years_ahead month) ∷ to_8_bits month ∷ to_8_bits day ∷ pos 0 ∷ pos 0 ∷ [] }
+    record {
+      count = 3;
+      values = to_32_bits (nisan_year +ℤ years_ahead month) ∷ to_8_bits month ∷ to_8_bits day ∷ pos 0
+          ∷ pos 0 ∷ [];
+    }
 
--- the date of a day of a month that begins on a day, by the Gregorian year in which Nisan came last and its first day there
+-- the date of a day of a month that begins on a day, by the Gregorian year in which Nisan came last and its first day
+-- there
 abbrev pub hebrew_by : (day first nisan_year nisan : ℤ) → Fields
 hebrew_by day first nisan_year nisan = hebrew_fields nisan_year (month_begun (first -ℤ nisan)) (day -ℤ first +ℤ pos 1)
 
--- the same by the first day of Nisan in the Gregorian year of the day: where the day comes before it, Nisan came last in the year before
+-- the same by the first day of Nisan in the Gregorian year of the day: where the day comes before it, Nisan came last
+-- in the year before
 unfoldable pub hebrew_since : (day first year nisan : ℤ) → Inquiry Fields
 hebrew_since day first year nisan =
-    if int_lt day nisan then (ask (nisan_fact (year -ℤ pos 1)) λ earlier. done (hebrew_by day first (year -ℤ pos 1) earlier))
+    if int_lt day nisan
+    then (ask (nisan_fact (year -ℤ pos 1)) λ earlier. done (hebrew_by day first (year -ℤ pos 1) earlier))
     else done (hebrew_by day first year nisan)
 
 -- the Hebrew date of a day (R.D.)

@@ -1,15 +1,17 @@
--- The Hindu lunar calendar by the true moon, at Ujjain: a month runs from new moon to new moon and has the number of the sign that the
--- sun enters in it; a month in which it enters none is an added one, with the number of the next. A day has the number of the
--- lunar day, the tithi, at its sunrise; a second day with the same tithi is a leap day. Years are counted by the Vikrama era. The
--- day of a date is this project's own. Reingold and Dershowitz, Calendrical Calculations, chapter 20. The fields of a result that
--- their types don't hold are clamped to the nearest bounds, so that the rules have an answer over every table.
+-- The Hindu lunar calendar by the true moon, at Ujjain: a month runs from new moon to new moon and has the number of
+-- the sign that the sun enters in it; a month in which it enters none is an added one, with the number of the next. A
+-- day has the number of the lunar day, the tithi, at its sunrise; a second day with the same tithi is a leap day. Years
+-- are counted by the Vikrama era. The day of a date is this project's own. Reingold and Dershowitz, Calendrical
+-- Calculations, chapter 20. The fields of a result that their types don't hold are clamped to the nearest bounds, so
+-- that the rules have an answer over every table.
 use Rattle.std.specs.Prelude.{Bool, ◌&&◌, if◌then◌else◌, List, [], ◌∷◌, ℤ, pos, ◌+ℤ◌, ◌-ℤ◌, int_le}
 use Rattle.std.specs.Ordering.{int_eq}
 use Rattle.book_model.specs.declared.calendar_tables.TheConstants.{HINDU_EPOCH, VIKRAMA_ERA}
 use Rattle.book_model.specs.declared.fact.Kind.TheVariants.{Tithi, SignBefore, SignAfter, CalendarYear}
 use Rattle.book_model.specs.declared.request.Fields.{Fields}
 use Rattle.book_model.specs.calendars.HinduSolar.{hindu_fact, days_to_month}
-use Rattle.book_model.specs.calendars.Inquiries.{Inquiry, done, ask, and_then, field_at, first_of, flag, to_32_bits, to_8_bits}
+use Rattle.book_model.specs.calendars.Inquiries.{Inquiry, done, ask, and_then, field_at, first_of, flag, to_32_bits}
+use Rattle.book_model.specs.calendars.Inquiries.{to_8_bits}
 use Rattle.book_model.specs.calendars.Spans.{amod}
 
 -- ---- the date of a day
@@ -17,17 +19,19 @@ use Rattle.book_model.specs.calendars.Spans.{amod}
 abbrev pub month_by_sign : ℤ → ℤ
 month_by_sign sign = amod (sign +ℤ pos 1) 12
 
--- the day of which the year of a month is asked: in the first two months one half a year on, as the year begins with the first
+-- the day of which the year of a month is asked: in the first two months one half a year on, as the year begins with
+-- the first
 unfoldable pub year_asked_of : (day month : ℤ) → ℤ
 year_asked_of day month = if int_le month (pos 2) then day +ℤ pos 180 else day
 
--- year, month, whether it is added, day, and whether it is the second of its tithi: by the tithis of the day and of the day before,
--- the signs at the new moons before and after, and the year of the Kali Yuga
+-- year, month, whether it is added, day, and whether it is the second of its tithi: by the tithis of the day and of the
+-- day before, the signs at the new moons before and after, and the year of the Kali Yuga
 unfoldable pub lunar_fields : (tithi earlier before after year : ℤ) → Fields
 lunar_fields tithi earlier before after year =
     record {
       count = 5;
-      values = to_32_bits (year -ℤ VIKRAMA_ERA) ∷ month_by_sign before ∷ flag (int_eq after before) ∷ to_8_bits tithi ∷ flag
+      values = to_32_bits (year -ℤ VIKRAMA_ERA) ∷ month_by_sign before ∷ flag (int_eq after before) ∷ to_8_bits tithi
+          ∷ flag
           (int_eq earlier tithi) ∷ [];
     }
 
@@ -49,12 +53,14 @@ hindu_lunar_on day =
 -- ---- the day of a date
 -- whether a date is in the month of the one that is sought: it has its year, its month and its leap month
 unfoldable pub is_of_month : (sought date : Fields) → Bool
-is_of_month sought date = int_eq (field_at date 0) (field_at sought 0) && int_eq (field_at date 1) (field_at sought 1) && int_eq (field_at date 2)
+is_of_month sought date = int_eq (field_at date 0) (field_at sought 0) && int_eq (field_at date 1) (field_at sought 1)
+    && int_eq (field_at date 2)
     (field_at sought 2)
 
 -- whether it is that date: it has its day and its leap day too
 unfoldable pub is_sought_date : (sought date : Fields) → Bool
-is_sought_date sought date = is_of_month sought date && int_eq (field_at date 3) (field_at sought 3) && int_eq (field_at date 4) (field_at sought 4)
+is_sought_date sought date = is_of_month sought date && int_eq (field_at date 3) (field_at sought 3) && int_eq
+    (field_at date 4) (field_at sought 4)
 
 -- whether a day (R.D.) lies in the month of a date
 unfoldable pub lies_in_month : (sought : Fields) (day : ℤ) → Inquiry Bool
@@ -82,7 +88,8 @@ day_about sought day = first_of (day_candidates day) (has_date sought) day
 
 -- the day of a date by the middle of its month, whose tithi leads to it, or to a day near it
 unfoldable pub day_by_middle : (sought : Fields) (middle : ℤ) → Inquiry ℤ
-day_by_middle sought middle = ask (hindu_fact Tithi middle) λ tithi. day_about sought (middle -ℤ tithi +ℤ field_at sought 3)
+day_by_middle sought middle = ask (hindu_fact Tithi middle) λ tithi. day_about sought
+    (middle -ℤ tithi +ℤ field_at sought 3)
 
 -- a day about the middle of a month, by the mean sun
 unfoldable pub day_by_sun : (year month : ℤ) → ℤ
@@ -97,8 +104,13 @@ day_by_month sought day =
 
 -- year, month, leap month, day and leap day
 abbrev pub lunar_date : (year month leap_month day leap_day : ℤ) → Fields
-lunar_date year month leap_month day leap_day = record { count = 5; values = year ∷ month ∷ leap_month ∷ day ∷ leap_day ∷ [] }
+lunar_date year month leap_month day leap_day = record {
+  count = 5;
+  values = year ∷ month ∷ leap_month ∷ day ∷ leap_day
+      ∷ [];
+}
 
 -- the day (R.D.) of a date
 unfoldable pub hindu_lunar_day : (year month leap_month day leap_day : ℤ) → Inquiry ℤ
-hindu_lunar_day year month leap_month day leap_day = day_by_month (lunar_date year month leap_month day leap_day) (day_by_sun year month)
+hindu_lunar_day year month leap_month day leap_day = day_by_month (lunar_date year month leap_month day leap_day)
+    (day_by_sun year month)

@@ -1,7 +1,7 @@
--- The Hindu solar calendar by the true sun, at Ujjain: a month is that in which the sun stands in a sign of the zodiac at sunset. Years
--- are counted by the Saka era. The day of a date is this project's own. Reingold and Dershowitz, Calendrical Calculations, chapter
--- 20. The fields of a result that their types don't hold are clamped to the nearest bounds, so that the rules have an answer over every
--- table.
+-- The Hindu solar calendar by the true sun, at Ujjain: a month is that in which the sun stands in a sign of the zodiac
+-- at sunset. Years are counted by the Saka era. The day of a date is this project's own. Reingold and Dershowitz,
+-- Calendrical Calculations, chapter 20. The fields of a result that their types don't hold are clamped to the nearest
+-- bounds, so that the rules have an answer over every table.
 use Rattle.std.specs.Prelude.{[], ◌∷◌, ℤ, pos, ◌+ℤ◌, ◌-ℤ◌, ◌*ℤ◌}
 use Rattle.book_model.specs.declared.calendar_tables.TheConstants.{HINDU_EPOCH, SAKA_ERA, SIDEREAL_YEAR}
 use Rattle.book_model.specs.declared.fact.Fact.{Fact}
@@ -35,7 +35,8 @@ hindu_solar_on day =
 
 -- the days from the epoch to the beginning of a month by the mean sun, its years in twelfths
 unfoldable pub days_to_month : (era year month : ℤ) → ℤ
-days_to_month era year month = days_of (fraction_of SIDEREAL_YEAR) (ratio (pos 12 *ℤ (year +ℤ era) +ℤ month -ℤ pos 1) 12)
+days_to_month era year month = days_of (fraction_of SIDEREAL_YEAR)
+    (ratio (pos 12 *ℤ (year +ℤ era) +ℤ month -ℤ pos 1) 12)
 
 -- a day within a month, late in it
 unfoldable pub day_late_in_month : (year month : ℤ) → ℤ
@@ -43,4 +44,5 @@ day_late_in_month year month = HINDU_EPOCH +ℤ days_to_month SAKA_ERA year mont
 
 -- the day (R.D.) of a year, a month and a day
 unfoldable pub hindu_solar_day : (year month day : ℤ) → Inquiry ℤ
-hindu_solar_day year month day = ask (hindu_fact Sankranti (day_late_in_month year month)) λ first. done (first +ℤ day -ℤ pos 1)
+hindu_solar_day year month day = ask (hindu_fact Sankranti (day_late_in_month year month)) λ first. done
+    (first +ℤ day -ℤ pos 1)

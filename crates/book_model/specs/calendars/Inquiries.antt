@@ -1,5 +1,6 @@
 -- Inquiries: the facts that a rule asks, in order, and its result over their values.
-use Rattle.std.specs.Prelude.{◌≡◌, ℕ, ◌-◌, ◌^◌, ◌&&◌, ◌==◌, if◌then◌else◌, Bool, List, [], ◌∷◌, ◌++◌, ℤ, pos, negsuc, int_le, slice_index_or}
+use Rattle.std.specs.Prelude.{◌≡◌, ℕ, ◌-◌, ◌^◌, ◌&&◌, ◌==◌, if◌then◌else◌, Bool, List, [], ◌∷◌, ◌++◌, ℤ, pos, negsuc}
+use Rattle.std.specs.Prelude.{int_le, slice_index_or}
 use Rattle.std.specs.Ordering.{int_eq}
 use Rattle.std.specs.List.{list_any}
 use Rattle.book_model.specs.declared.fact.Fact.{Fact}
@@ -39,7 +40,8 @@ flag b = if b then pos 1 else pos 0
 
 -- the nearest number of 32 bits
 abbrev pub to_32_bits : ℤ → ℤ
-to_32_bits z = if int_le z (negsuc (2 ^ 31 - 1)) then negsuc (2 ^ 31 - 1) else (if int_le (pos (2 ^ 31 - 1)) z then pos (2 ^ 31 - 1) else z)
+to_32_bits z = if int_le z (negsuc (2 ^ 31 - 1)) then negsuc (2 ^ 31 - 1)
+    else (if int_le (pos (2 ^ 31 - 1)) z then pos (2 ^ 31 - 1) else z)
 
 -- the nearest number of 8 bits
 abbrev pub to_8_bits : ℤ → ℤ
@@ -57,7 +59,8 @@ facts_over table (ask f next) = f ∷ facts_over table (next (table f))
 
 -- whether two facts are one
 abbrev pub fact_eq : Fact → Fact → Bool
-fact_eq f g = (kind_number f.kind == kind_number g.kind) && (place_number f.place == place_number g.place) && int_eq f.day g.day
+fact_eq f g = (kind_number f.kind == kind_number g.kind) && (place_number f.place == place_number g.place) && int_eq
+    f.day g.day
 
 -- facts, each once, and this one
 abbrev pub with_fact : List Fact → Fact → List Fact
@@ -85,7 +88,8 @@ found_at f (undecided_test_at s) next = stopped f
 -- the finding over the runs of the facts at a depth, after these facts
 unfoldable pub finding_after : {A : Type 0} → ℕ → List (Fact × ℤ) → Inquiry A → Finding A
 finding_after n seen (done a) = found a seen
-finding_after n seen (ask f next) = found_at f (outcome (run_of n f)) (λ v. finding_after n (with_entry seen f v) (next v))
+finding_after n seen (ask f next) = found_at f (outcome (run_of n f))
+    (λ v. finding_after n (with_entry seen f v) (next v))
 
 abbrev pub finding : {A : Type 0} → ℕ → Inquiry A → Finding A
 finding n i = finding_after n [] i
@@ -93,4 +97,5 @@ finding n i = finding_after n [] i
 -- at a depth the inquiry asks a fact
 pub data AsksAt {A : Type 0} (n : ℕ) : Inquiry A → Fact → Type 0 where
   asks_here : {f : Fact} {next : ℤ → Inquiry A} → AsksAt n (ask f next) f
-  asks_after : {f g : Fact} {v : ℤ} {next : ℤ → Inquiry A} → outcome (run_of n g) ≡ valued v → AsksAt n (next v) f → AsksAt n (ask g next) f
+  asks_after : {f g : Fact} {v : ℤ} {next : ℤ → Inquiry A} → outcome (run_of n g) ≡ valued v → AsksAt n (next v) f
+      → AsksAt n (ask g next) f

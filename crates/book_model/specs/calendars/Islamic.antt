@@ -1,6 +1,6 @@
--- The Islamic calendar by observation: a month begins on the day on whose evening before the crescent is first seen, at Cairo by
--- Shaukat's criterion. The fields of a result that their types don't hold are clamped to the nearest bounds, so that the rules
--- have an answer over every table. Reingold and Dershowitz, Calendrical Calculations, chapter 18.
+-- The Islamic calendar by observation: a month begins on the day on whose evening before the crescent is first seen, at
+-- Cairo by Shaukat's criterion. The fields of a result that their types don't hold are clamped to the nearest bounds,
+-- so that the rules have an answer over every table. Reingold and Dershowitz, Calendrical Calculations, chapter 18.
 use Rattle.std.specs.Prelude.{[], ◌∷◌, ℤ, pos, ◌+ℤ◌, ◌-ℤ◌, ◌*ℤ◌}
 use Rattle.book_model.specs.declared.calendar_tables.TheConstants.{ISLAMIC_EPOCH, SYNODIC_MONTH}
 use Rattle.book_model.specs.declared.fact.Fact.{Fact}
@@ -22,7 +22,11 @@ months_before first = months_of_days (first -ℤ ISLAMIC_EPOCH)
 -- year, month and day, where so many months have passed
 unfoldable pub islamic_fields : (passed day : ℤ) → Fields
 islamic_fields passed day =
-    record { count = 3; values = to_32_bits (quotient_down passed 12 +ℤ pos 1) ∷ (modulo passed 12 +ℤ pos 1) ∷ to_8_bits day ∷ pos 0 ∷ pos 0 ∷ [] }
+    record {
+      count = 3;
+      values = to_32_bits (quotient_down passed 12 +ℤ pos 1) ∷ (modulo passed 12 +ℤ pos 1)
+          ∷ to_8_bits day ∷ pos 0 ∷ pos 0 ∷ [];
+    }
 
 -- the Islamic date of a day (R.D.)
 unfoldable pub islamic_on : ℤ → Inquiry Fields

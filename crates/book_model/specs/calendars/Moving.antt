@@ -1,4 +1,5 @@
--- Inquiries of the sky of another place: what the Chinese rules ask of the sky of Beijing is asked of that place instead.
+-- Inquiries of the sky of another place: what the Chinese rules ask of the sky of Beijing is asked of that place
+-- instead.
 use Rattle.std.specs.Prelude.{◌&&◌, ◌==◌, if◌then◌else◌, Bool, true, false}
 use Rattle.book_model.specs.declared.fact.Fact.{Fact}
 use Rattle.book_model.specs.declared.fact.Kind.{Kind}
@@ -16,9 +17,11 @@ is_eastern NewMoonFrom = true
 is_eastern Major = true
 is_eastern kind = false
 
--- the fact of the same kind and day at another place, where it is one of these of the sky of Beijing; any other fact stays
+-- the fact of the same kind and day at another place, where it is one of these of the sky of Beijing; any other fact
+-- stays
 unfoldable pub moved_fact : Place → Fact → Fact
-moved_fact place f = if is_eastern f.kind && (place_number f.place == place_number Beijing) then record f { place = place } else f
+moved_fact place f = if is_eastern f.kind && (place_number f.place == place_number Beijing)
+    then record f { place = place } else f
 
 -- an inquiry, with each fact that it asks moved
 unfoldable pub moved : {A : Type 0} → (Fact → Fact) → Inquiry A → Inquiry A

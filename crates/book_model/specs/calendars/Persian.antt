@@ -24,7 +24,8 @@ year_begun first = pos 1 +ℤ years_of_days (first -ℤ PERSIAN_EPOCH)
 
 -- the days of a year before a month: six months have 31 days each, and those after them 30
 abbrev pub days_before_month : ℤ → ℤ
-days_before_month month = if int_le month (pos 7) then pos 31 *ℤ (month -ℤ pos 1) else pos 30 *ℤ (month -ℤ pos 1) +ℤ pos 6
+days_before_month month = if int_le month (pos 7) then pos 31 *ℤ (month -ℤ pos 1) else pos 30 *ℤ (month -ℤ pos 1) +ℤ pos
+    6
 
 -- the month of a day by its number in the year, which counts from 1
 abbrev pub month_of_number : ℤ → ℤ
@@ -35,7 +36,8 @@ unfoldable pub persian_fields : (year number : ℤ) → Fields
 persian_fields year number =
     record {
       count = 3;
-      values = to_32_bits year ∷ to_8_bits (month_of_number number) ∷ to_8_bits (number -ℤ days_before_month (month_of_number number)) ∷ pos 0
+      values = to_32_bits year ∷ to_8_bits (month_of_number number) ∷ to_8_bits
+          (number -ℤ days_before_month (month_of_number number)) ∷ pos 0
           ∷ pos 0 ∷ [];
     }
 

@@ -1,5 +1,5 @@
--- Whole numbers of days and of spans, as years and months are, exact: what the rules of dates count with. Nothing here is a
--- test.
+-- Whole numbers of days and of spans, as years and months are, exact: what the rules of dates count with. Nothing here
+-- is a test.
 use Rattle.std.specs.Prelude.{ℕ, ◌-◌, ℤ}
 use Rattle.exact_math.specs.Fraction.{Fraction, whole, plus, times, reciprocal, floor}
 pub use Rattle.exact_math.specs.Quotients.{quotient_down, quotient_up, modulo, amod}

@@ -1,6 +1,8 @@
--- The versions of certificates, by their rows: which days a line may name, of which a fact had a value, and of which years there is
--- an almanac; the kinds, places and sites that it has; the first line of a file, and the version that a first line gives.
-use Rattle.std.specs.Prelude.{ℕ, ◌≤◌, nat_le, ◌||◌, if◌then◌else◌, Bool, false, List, [], ◌∷◌, Option, Some, None, map, ℤ, pos, slice_index_or}
+-- The versions of certificates, by their rows: which days a line may name, of which a fact had a value, and of which
+-- years there is an almanac; the kinds, places and sites that it has; the first line of a file, and the version that a
+-- first line gives.
+use Rattle.std.specs.Prelude.{ℕ, ◌≤◌, nat_le, ◌||◌, if◌then◌else◌, Bool, false, List, [], ◌∷◌, Option, Some, None, map}
+use Rattle.std.specs.Prelude.{ℤ, pos, slice_index_or}
 use denote.Enum.Declared.{tag_of}
 use Rattle.book_model.specs.contracts.version.Version.{the_type as version_type}
 use Rattle.book_model.specs.declared.fact.Kind.{Kind}
@@ -9,7 +11,8 @@ use Rattle.book_model.specs.declared.site.Site.{Site}
 use Rattle.book_model.specs.declared.version.Version.{Version}
 use Rattle.book_model.specs.declared.version.TheConstants.{VERSIONS, HEADERS, FIRST_ALMANAC_YEAR, LAST_ALMANAC_YEAR}
 use Rattle.book_model.specs.sky.Correction.{is_between}
-use Rattle.book_model.specs.sky.Names.{first_named, kind_named, kind_since, place_named, place_since, site_named, site_since}
+use Rattle.book_model.specs.sky.Names.{first_named, kind_named, kind_since, place_named, place_since, site_named}
+use Rattle.book_model.specs.sky.Names.{site_since}
 
 -- the number of a version, from 0: its place among the versions
 abbrev pub version_number : Version → ℕ

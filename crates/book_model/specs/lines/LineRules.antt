@@ -35,7 +35,8 @@ confirmed r day back = if are_same_fields back r.date then result_on r.to day el
 
 -- the result of a day within the range that a date names; some calendars have dates that no day has
 unfoldable pub result_within : Request → ℤ → Inquiry Resolved
-result_within r day = if (row_of (calendar_of r.from)).is_confirmed then and_then (date_on (calendar_of r.from) day) (confirmed r day) else result_on r.to day
+result_within r day = if (row_of (calendar_of r.from)).is_confirmed then and_then (date_on (calendar_of r.from) day)
+    (confirmed r day) else result_on r.to day
 
 -- the result of a day that a date names, in lines of a version
 unfoldable pub result_of_day : Version → Request → ℤ → Inquiry Resolved

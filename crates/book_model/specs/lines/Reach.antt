@@ -14,14 +14,16 @@ use Rattle.book_model.specs.sky.Correction.{is_between}
 abbrev pub later : ℤ → ℤ → ℤ
 later a b = if int_le a b then b else a
 
--- the first day for which what a word is about exists: the first day that a calendar tells, for a date; any, for the value of a fact
+-- the first day for which what a word is about exists: the first day that a calendar tells, for a date; any, for the
+-- value of a fact
 abbrev pub first_day_of : Meaning → ℤ
 first_day_of (Date c) = (row_of c).first_day
 first_day_of (Value kind place) = pos 0
 
 -- the first and the last day that a line of a version may name, by the words before and after its date
 abbrev pub reach_of : Version → FromWord → ToWord → ℤ × ℤ
-reach_of version from to = (later (days_in version).0 (later (first_day_of (named_by from)) (first_day_of (shown_by to))), (days_in version).1)
+reach_of version from to =
+    (later (days_in version).0 (later (first_day_of (named_by from)) (first_day_of (shown_by to))), (days_in version).1)
 
 -- the days that it may name
 abbrev pub is_reached : Version → FromWord → ToWord → ℤ → Bool

@@ -1,5 +1,6 @@
 -- What a line asks, and the first rule that it breaks.
-use Rattle.std.specs.Prelude.{◌≡◌, ℕ, ◌&&◌, nat_le, nat_lt, if◌then◌else◌, Bool, true, List, [], ◌∷◌, length, slice_index_or, pos, ℤ, Some, None, Option, Result, Ok, Err}
+use Rattle.std.specs.Prelude.{◌≡◌, ℕ, ◌&&◌, nat_le, nat_lt, if◌then◌else◌, Bool, true, List, [], ◌∷◌, length}
+use Rattle.std.specs.Prelude.{slice_index_or, pos, ℤ, Some, None, Option, Result, Ok, Err}
 use Rattle.std.specs.List.{list_all}
 use Rattle.book_model.specs.declared.calendar.Calendar.{Calendar}
 use Rattle.book_model.specs.declared.words.FromWord.{FromWord}
@@ -46,7 +47,8 @@ fields_with ns = record {
 abbrev pub is_of_seven_digits : ℕ → Bool
 is_of_seven_digits n = nat_lt n 10000000
 
--- a line can spell the request: its date is as many numbers as the dates of its calendar have, each of at most seven digits
+-- a line can spell the request: its date is as many numbers as the dates of its calendar have, each of at most seven
+-- digits
 pub record IsSpelled (r : Request) : Type 0 where
   pub numbers : List ℕ
   pub date : r.date ≡ fields_with numbers
@@ -99,12 +101,14 @@ has_words version r = has_since version (from_since r.from) && has_since version
 -- the request itself, where a version has its words, its calendar may have its date, and the version answers it
 abbrev pub checked_request : Version → Request → Result Request Rule
 checked_request version r =
-    if has_words version r then with_date r.from r.to (ranged_by version r.from r.to (checked (calendar_of r.from) r.date)) else Err rules.Calendar
+    if has_words version r then with_date r.from r.to
+    (ranged_by version r.from r.to (checked (calendar_of r.from) r.date)) else Err rules.Calendar
 
 abbrev pub with_words : Version → Option FromWord → List ℕ → Option ToWord → Result Request Rule
 with_words version None date to = Err rules.Calendar
 with_words version (Some from) date None = Err rules.Calendar
-with_words version (Some from) date (Some to) = with_date from to (ranged_by version from to (fields_of (calendar_of from) date))
+with_words version (Some from) date (Some to) =
+    with_date from to (ranged_by version from to (fields_of (calendar_of from) date))
 
 -- the request of three words, by a version's rules
 abbrev pub asked_by : Version → List (List ℕ) → Result Request Rule
@@ -116,4 +120,5 @@ asked_by version (from ∷ date ∷ to ∷ more ∷ words) = Err Syntax
 
 -- what a line asks, or the first rule of a version that it breaks
 unfoldable pub request_of : Version → List ℕ → Result Request Rule
-request_of version line = if nat_le (length line) 200 && list_all is_plain line then asked_by version (words_of line) else Err Syntax
+request_of version line = if nat_le (length line) 200 && list_all is_plain line then asked_by version (words_of line)
+    else Err Syntax

@@ -1,5 +1,6 @@
 -- The text that is written for lines and their outcomes.
-use Rattle.std.specs.Prelude.{ℕ, ◌+◌, ◌-◌, replicate, if◌then◌else◌, List, [], ◌∷◌, ◌++◌, length, take, slice_index_or, codes, decimal, ℤ, pos}
+use Rattle.std.specs.Prelude.{ℕ, ◌+◌, ◌-◌, replicate, if◌then◌else◌, List, [], ◌∷◌, ◌++◌, length, take, slice_index_or}
+use Rattle.std.specs.Prelude.{codes, decimal, ℤ, pos}
 use Rattle.std.specs.Fmt.{signed_decimal}
 use Rattle.std.specs.List.{concat, flat_map, list_any, position_or_len}
 use Rattle.book_model.specs.declared.version.Version.{Version}
@@ -31,7 +32,8 @@ header_of version = header_line version ++ codes "\n"
 
 -- fact N KIND PLACE DAY VALUE
 unfoldable pub fact_text : ℕ → Fact → ℤ → List ℕ
-fact_text number f value = concat (codes "fact " ∷ decimal number ∷ codes " " ∷ kind_name f.kind ∷ codes " " ∷ place_name f.place ∷ codes " " ∷ signed_decimal
+fact_text number f value = concat (codes "fact " ∷ decimal number ∷ codes " " ∷ kind_name f.kind ∷ codes " "
+    ∷ place_name f.place ∷ codes " " ∷ signed_decimal
     f.day ∷ codes " " ∷ signed_decimal value ∷ codes "\n" ∷ [])
 
 -- the first value of the fields
@@ -44,7 +46,8 @@ padded width n = replicate (width - length (decimal n)) 48 ++ decimal n
 
 -- a year of four digits, a month of two and a day of two
 unfoldable pub gregorian_text : Fields → List ℕ
-gregorian_text f = concat (padded 4 (field f 0) ∷ codes "-" ∷ padded 2 (field f 1) ∷ codes "-" ∷ padded 2 (field f 2) ∷ [])
+gregorian_text f = concat (padded 4 (field f 0) ∷ codes "-" ∷ padded 2 (field f 1) ∷ codes "-" ∷ padded 2 (field f 2)
+    ∷ [])
 
 -- a number, after a dash
 abbrev pub dash_text : ℤ → List ℕ
@@ -120,14 +123,17 @@ refused_text number rule = concat (codes "line " ∷ decimal number ∷ codes " 
 -- N undecided SITE TURN LO HI fact KIND PLACE DAY
 unfoldable pub open_text : ℕ → Fact → Undecided → List ℕ
 open_text number f u =
-    concat (decimal number ∷ codes " undecided " ∷ site_name u.site ∷ codes " " ∷ decimal u.turn ∷ codes " " ∷ signed_decimal u.lo ∷ codes " " ∷ signed_decimal
+    concat (decimal number ∷ codes " undecided " ∷ site_name u.site ∷ codes " " ∷ decimal u.turn ∷ codes " "
+    ∷ signed_decimal u.lo ∷ codes " " ∷ signed_decimal
     u.hi
-    ∷ codes " fact " ∷ kind_name f.kind ∷ codes " " ∷ place_name f.place ∷ codes " " ∷ signed_decimal f.day ∷ codes "\n" ∷ [])
+    ∷ codes " fact " ∷ kind_name f.kind ∷ codes " " ∷ place_name f.place ∷ codes " " ∷ signed_decimal f.day ∷ codes "\n"
+    ∷ [])
 
 -- N void SITE fact KIND PLACE DAY
 unfoldable pub empty_text : ℕ → Fact → Site → List ℕ
 empty_text number f s =
-    concat (decimal number ∷ codes " void " ∷ site_name s ∷ codes " fact " ∷ kind_name f.kind ∷ codes " " ∷ place_name f.place ∷ codes " " ∷ signed_decimal
+    concat (decimal number ∷ codes " void " ∷ site_name s ∷ codes " fact " ∷ kind_name f.kind ∷ codes " "
+    ∷ place_name f.place ∷ codes " " ∷ signed_decimal
     f.day ∷ codes "\n" ∷ [])
 
 -- HEAD N undecided SITE TURN LO HI fact KIND PLACE DAY: the head is `line`, or `no` in a verdict
@@ -150,7 +156,8 @@ with_facts seen (e ∷ es) = with_facts (with_fact seen e.0) es
 -- those of the facts that aren't printed yet, numbered in order of first use
 abbrev pub new_facts_text : List Fact → List (Fact × ℤ) → List ℕ
 new_facts_text seen [] = []
-new_facts_text seen (e ∷ es) = (if list_any (fact_eq e.0) seen then [] else fact_text (length seen + 1) e.0 e.1) ++ new_facts_text (with_fact seen e.0) es
+new_facts_text seen (e ∷ es) = (if list_any (fact_eq e.0) seen then [] else fact_text (length seen + 1) e.0 e.1)
+    ++ new_facts_text (with_fact seen e.0) es
 
 -- each fact's number, by its place among the facts printed so far
 abbrev pub numbers_of : List Fact → List (Fact × ℤ) → List ℕ
@@ -167,7 +174,8 @@ seen_after seen (void f s) = seen
 -- what stands for one line: its new facts, and then the line
 abbrev pub block_text : List Fact → ℕ → List ℕ → LineOutcome → List ℕ
 block_text seen number line (refused rule) = refused_text number (rule_number rule)
-block_text seen number line (resolved x facts) = new_facts_text seen facts ++ listed_text number (words_of line) (result_text x) (numbers_of seen facts)
+block_text seen number line (resolved x facts) = new_facts_text seen facts ++ listed_text number (words_of line)
+    (result_text x) (numbers_of seen facts)
 block_text seen number line (undecided f u) = undecided_text (codes "line ") number f u
 block_text seen number line (void f s) = void_text (codes "line ") number f s
 
@@ -175,7 +183,8 @@ block_text seen number line (void f s) = void_text (codes "line ") number f s
 abbrev pub text_from : List Fact → ℕ → List (List ℕ) → List LineOutcome → List ℕ
 text_from seen count [] os = end_text count (length seen)
 text_from seen count (line ∷ lines) [] = end_text count (length seen)
-text_from seen count (line ∷ lines) (o ∷ os) = block_text seen (count + 1) line o ++ text_from (seen_after seen o) (count + 1) lines os
+text_from seen count (line ∷ lines) (o ∷ os) = block_text seen (count + 1) line o ++ text_from (seen_after seen o)
+    (count + 1) lines os
 
 -- the text of lines and their outcomes
 abbrev pub text : List (List ℕ) → List LineOutcome → List ℕ

@@ -1,14 +1,17 @@
--- Arctangents in degrees, over closed pieces of the line, and by them arcsine, arccosine and the arctangent of two numbers.
+-- Arctangents in degrees, over closed pieces of the line, and by them arcsine, arccosine and the arctangent of two
+-- numbers.
 use Rattle.std.specs.Prelude.{ℕ, Bool, true, cond, ◌&&◌, pos, negsuc, Option, Some, None, List, [], ◌∷◌, map}
 use Rattle.std.specs.List.{filter}
 use lib.Signed.{lt_z}
 use Rattle.exact_math.specs.Fraction.{Fraction, whole, plus, opposite, times, reciprocal, is_at_most, smaller, larger}
-use Rattle.exact_math.specs.Interval.{Interval, everything, between, zero_fraction, one, minus_one, sum, difference, negative, product, quotient, power, hull, clamp}
+use Rattle.exact_math.specs.Interval.{Interval, everything, between, zero_fraction, one, minus_one, sum, difference}
+use Rattle.exact_math.specs.Interval.{negative, product, quotient, power, hull, clamp}
 use Rattle.book_model.specs.numbers.Series.{arctan_at, pi_at}
 use Rattle.book_model.specs.numbers.Octants.{only}
 use Rattle.book_model.specs.numbers.Roots.{root_of}
 
--- the arctangent, in radians, of a fraction from -1/2 to 1/2; of a negative one it is the negative of that of its opposite
+-- the arctangent, in radians, of a fraction from -1/2 to 1/2; of a negative one it is the negative of that of its
+-- opposite
 unfoldable pub arctan_series : ℕ → Fraction → Interval
 arctan_series n x = cond (is_at_most zero_fraction x) (arctan_at n x) (negative (arctan_at n (opposite x)))
 
@@ -105,7 +108,8 @@ unfoldable pub hull_of_all : List Interval → Interval
 hull_of_all [] = everything
 hull_of_all (i ∷ is) = hull_with i is
 
--- the arctangent of an interval in degrees: the hull over the pieces that it meets, each at the two endpoints of its part
+-- the arctangent of an interval in degrees: the hull over the pieces that it meets, each at the two endpoints of its
+-- part
 unfoldable pub arctangent_of : ℕ → Interval → Interval
 arctangent_of n everything = everything
 arctangent_of n (between a b) = hull_of_all (arcs_over n a b pieces)
@@ -119,8 +123,10 @@ unfoldable pub arctangent_of_two : ℕ → Interval → Interval → Interval
 arctangent_of_two n everything x = all_around
 arctangent_of_two n (between a b) everything = all_around
 arctangent_of_two n (between a b) (between c d) =
-    cond (lt_z (pos 0) a.num) (difference (only (whole (pos 90))) (arctangent_of n (quotient (between c d) (between a b))))
-    (cond (lt_z b.num (pos 0)) (difference (only (whole (negsuc 89))) (arctangent_of n (quotient (between c d) (between a b)))) all_around)
+    cond (lt_z (pos 0) a.num)
+    (difference (only (whole (pos 90))) (arctangent_of n (quotient (between c d) (between a b))))
+    (cond (lt_z b.num (pos 0))
+    (difference (only (whole (negsuc 89))) (arctangent_of n (quotient (between c d) (between a b)))) all_around)
 
 -- the root of 1 - x^2
 abbrev pub other_side : ℕ → Interval → Interval
@@ -128,7 +134,8 @@ other_side n i = root_of n (difference (only one) (power i 2))
 
 -- the arcsine in degrees, after clamping: 2 arctan (x / (1 + root (1 - x^2)))
 unfoldable pub arcsine_of : ℕ → Interval → Interval
-arcsine_of n i = product (arctangent_of n (quotient (clamp i) (sum (only one) (other_side n (clamp i))))) (only (whole (pos 2)))
+arcsine_of n i = product (arctangent_of n (quotient (clamp i) (sum (only one) (other_side n (clamp i)))))
+    (only (whole (pos 2)))
 
 -- the arccosine in degrees: 90 - arcsin x
 unfoldable pub arccosine_of : ℕ → Interval → Interval

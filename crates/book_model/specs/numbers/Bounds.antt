@@ -1,23 +1,27 @@
 -- Bounds of enclosures, computed along expressions: a range of the endpoints, and a greatest width that is linear in
 -- the width of a moment. An operation that isn't analysed yet promises nothing.
-use Rattle.std.specs.Prelude.{ℕ, zero, suc, ◌+◌, ◌-◌, ◌*◌, ◌/◌, ◌^◌, max, Bool, true, false, cond, ℤ, pos, negsuc, neg_ℤ, unsigned_abs, ◌+ℤ◌, ◌-ℤ◌, ◌*ℤ◌, nat_le, nat_lt, int_le, ◌&&◌}
+use Rattle.std.specs.Prelude.{ℕ, zero, suc, ◌+◌, ◌-◌, ◌*◌, ◌/◌, ◌^◌, max, Bool, true, false, cond, ℤ, pos, negsuc}
+use Rattle.std.specs.Prelude.{neg_ℤ, unsigned_abs, ◌+ℤ◌, ◌-ℤ◌, ◌*ℤ◌, nat_le, nat_lt, int_le, ◌&&◌}
 use Rattle.std.specs.Int.{int_min, int_max}
 use lib.Signed.{le_z, lt_z}
 use Rattle.exact_math.specs.Fraction.{Fraction, ◌≤F◌, whole, plus, floor_quotient}
 use Rattle.exact_math.specs.Interval.{Interval, everything, between}
 use Rattle.book_model.specs.numbers.Roots.{root_by_digits}
 use Rattle.book_model.specs.numbers.Octants.{octant_of_turn}
-use Rattle.book_model.specs.numbers.Expressions.{Expression, argument, integer, constant, add, subtract, multiply, divide, negate, scale, power, minimum, maximum, hull, clamp, widen, pi, sine, cosine, tangent, root, arctangent, arcsine, arccosine, arctangent_of_two, remainder}
+use Rattle.book_model.specs.numbers.Expressions.{Expression, argument, integer, constant, add, subtract, multiply}
+use Rattle.book_model.specs.numbers.Expressions.{divide, negate, scale, power, minimum, maximum, hull, clamp, widen, pi}
+use Rattle.book_model.specs.numbers.Expressions.{sine, cosine, tangent, root, arctangent, arcsine, arccosine}
+use Rattle.book_model.specs.numbers.Expressions.{arctangent_of_two, remainder}
 
--- The endpoints lie from low to high, in 2^-32. The width is at most slope * w + slack, where the width w of a moment and slack
--- are in units of 2^-64, and slope in units of 2^-40.
+-- The endpoints lie from low to high, in 2^-32. The width is at most slope * w + slack, where the width w of a moment
+-- and slack are in units of 2^-64, and slope in units of 2^-40.
 pub data Bound : Type 0 where
   unbounded : Bound
   bounded : (low high : ℤ) → (slope slack : ℕ) → Bound
 
--- what the operations of a scale bear: its unit, in 2^-64; the size below which numbers must stay, in 2^-32, and that of products,
--- of divisors and of what has a root; the size below which the numerators of constants must stay, and that of the products of
--- numbers, in 2^-32, with the numerators of factors
+-- what the operations of a scale bear: its unit, in 2^-64; the size below which numbers must stay, in 2^-32, and that
+-- of products, of divisors and of what has a root; the size below which the numerators of constants must stay, and that
+-- of the products of numbers, in 2^-32, with the numerators of factors
 pub record Limits : Type 0 where
   pub unit : ℕ
   pub sizes : ℕ
@@ -40,7 +44,8 @@ limited false b = unbounded
 
 -- a whole number
 unfoldable pub integer_bound : Limits → ℤ → Bound
-integer_bound l n = limited (nat_lt (unsigned_abs n * 2 ^ 32) l.sizes) (bounded (n *ℤ pos (2 ^ 32)) (n *ℤ pos (2 ^ 32)) 0 0)
+integer_bound l n = limited (nat_lt (unsigned_abs n * 2 ^ 32) l.sizes)
+    (bounded (n *ℤ pos (2 ^ 32)) (n *ℤ pos (2 ^ 32)) 0 0)
 
 -- the least and the greatest number in 2^-32 around a fraction
 abbrev pub floor_at_32 : Fraction → ℤ
@@ -66,14 +71,17 @@ sum_bound l (bounded a b s k) (bounded c d t m) =
 abbrev pub ceil_quotient : ℤ → ℕ → ℤ
 ceil_quotient n d = neg_ℤ (floor_quotient (neg_ℤ n) d)
 
--- times n / (d + 1), for a number from a to b of size A: its two endpoints, and the width times the size of n, and two units
+-- times n / (d + 1), for a number from a to b of size A: its two endpoints, and the width times the size of n, and two
+-- units
 abbrev pub scaled_within : Limits → (n : ℤ) (d : ℕ) (a b : ℤ) (A N s k : ℕ) → Bound
 scaled_within l n d a b A N s k =
     limited
     (nat_lt (A * N) l.factors
-    && nat_lt (range_size (int_min (floor_quotient (a *ℤ n) d) (floor_quotient (b *ℤ n) d)) (int_max (ceil_quotient (a *ℤ n) d) (ceil_quotient (b *ℤ n) d)))
+    && nat_lt (range_size (int_min (floor_quotient (a *ℤ n) d) (floor_quotient (b *ℤ n) d))
+    (int_max (ceil_quotient (a *ℤ n) d) (ceil_quotient (b *ℤ n) d)))
     l.sizes)
-    (bounded (int_min (floor_quotient (a *ℤ n) d) (floor_quotient (b *ℤ n) d)) (int_max (ceil_quotient (a *ℤ n) d) (ceil_quotient (b *ℤ n) d))
+    (bounded (int_min (floor_quotient (a *ℤ n) d) (floor_quotient (b *ℤ n) d))
+    (int_max (ceil_quotient (a *ℤ n) d) (ceil_quotient (b *ℤ n) d))
     (ceil_div (s * N) d) (ceil_div (k * N) d + 2 * l.unit))
 
 unfoldable pub scaled_bound : Limits → Fraction → Bound → Bound
@@ -90,7 +98,8 @@ difference_bound l (bounded a b s k) (bounded c d t m) =
 -- an opposite
 unfoldable pub negated_bound : Limits → Bound → Bound
 negated_bound l unbounded = unbounded
-negated_bound l (bounded a b s k) = limited (nat_lt (range_size (neg_ℤ b) (neg_ℤ a)) l.sizes) (bounded (neg_ℤ b) (neg_ℤ a) s k)
+negated_bound l (bounded a b s k) = limited (nat_lt (range_size (neg_ℤ b) (neg_ℤ a)) l.sizes)
+    (bounded (neg_ℤ b) (neg_ℤ a) s k)
 
 -- the least and the greatest product of a number from a to b and one from c to d
 abbrev pub least_corner : (a b c d : ℤ) → ℤ
@@ -116,7 +125,8 @@ unfoldable pub product_bound : Limits → Bound → Bound → Bound
 product_bound l unbounded y = unbounded
 product_bound l (bounded a b s k) unbounded = unbounded
 product_bound l (bounded a b s k) (bounded c d t m) =
-    product_within l (floor_of_product (least_corner a b c d)) (ceil_of_product (greatest_corner a b c d)) (range_size a b) (range_size c d) s k t m
+    product_within l (floor_of_product (least_corner a b c d)) (ceil_of_product (greatest_corner a b c d))
+    (range_size a b) (range_size c d) s k t m
 
 -- the least and the greatest square of a number from a to b
 abbrev pub least_square : ℤ → ℤ → ℤ
@@ -129,7 +139,8 @@ greatest_square a b = int_max (a *ℤ a) (b *ℤ b)
 abbrev pub square_bound : Limits → Bound → Bound
 square_bound l unbounded = unbounded
 square_bound l (bounded a b s k) =
-    product_within l (floor_of_product (least_square a b)) (ceil_of_product (greatest_square a b)) (range_size a b) (range_size a b) s k s k
+    product_within l (floor_of_product (least_square a b)) (ceil_of_product (greatest_square a b)) (range_size a b)
+    (range_size a b) s k s k
 
 -- a power from the second on: the square, and then the product of the power before it and the number
 unfoldable pub power_bound : Limits → Bound → ℕ → Bound
@@ -149,7 +160,8 @@ greatest_quotient a c d = int_max (ceil_quotient (a *ℤ pos (2 ^ 32)) c) (ceil_
 abbrev pub quotient_within : Limits → (low high : ℤ) (A B g s k t m : ℕ) → Bound
 quotient_within l low high A B g s k t m =
     limited (nat_lt (ceil_div (A * 2 ^ 32) g) l.sizes && nat_lt B l.products)
-    (bounded low high (ceil_div ((s * suc g + A * t) * 2 ^ 32) (suc g * suc g - 1)) (ceil_div ((k * suc g + A * m) * 2 ^ 32) (suc g * suc g - 1) + 2 * l.unit))
+    (bounded low high (ceil_div ((s * suc g + A * t) * 2 ^ 32) (suc g * suc g - 1))
+    (ceil_div ((k * suc g + A * m) * 2 ^ 32) (suc g * suc g - 1) + 2 * l.unit))
 
 unfoldable pub quotient_bound : Limits → Bound → Bound → Bound
 quotient_bound l unbounded y = unbounded
@@ -157,7 +169,8 @@ quotient_bound l (bounded a b s k) unbounded = unbounded
 quotient_bound l (bounded a b s k) (bounded (pos zero) d t m) = unbounded
 quotient_bound l (bounded a b s k) (bounded (negsuc c) d t m) = unbounded
 quotient_bound l (bounded a b s k) (bounded (pos (suc c)) d t m) =
-    quotient_within l (least_quotient a c (unsigned_abs d - 1)) (greatest_quotient b c (unsigned_abs d - 1)) (range_size a b) (range_size (pos (suc c)) d) c s k
+    quotient_within l (least_quotient a c (unsigned_abs d - 1)) (greatest_quotient b c (unsigned_abs d - 1))
+    (range_size a b) (range_size (pos (suc c)) d) c s k
     t m
 
 -- the lesser of two: no wider than the wider of them
@@ -170,7 +183,8 @@ minimum_bound (bounded a b s k) (bounded c d t m) = bounded (int_min a c) (int_m
 unfoldable pub hull_bound : Bound → Bound → Bound
 hull_bound unbounded y = unbounded
 hull_bound (bounded a b s k) unbounded = unbounded
-hull_bound (bounded a b s k) (bounded c d t m) = bounded (int_min a c) (int_max b d) 0 (unsigned_abs (int_max b d -ℤ int_min a c) * 2 ^ 32)
+hull_bound (bounded a b s k) (bounded c d t m) = bounded (int_min a c) (int_max b d) 0
+    (unsigned_abs (int_max b d -ℤ int_min a c) * 2 ^ 32)
 
 -- the size of a fraction in 2^-32, rounded up, and in 2^-64
 abbrev pub margin_32 : Fraction → ℕ
@@ -183,7 +197,8 @@ margin_64 f = ceil_div (unsigned_abs f.num * 2 ^ 64) f.below
 unfoldable pub widen_bound : Limits → Fraction → Bound → Bound
 widen_bound l f unbounded = unbounded
 widen_bound l f (bounded a b s k) =
-    limited (nat_lt (unsigned_abs f.num) l.constants && nat_lt (range_size (a -ℤ pos (margin_32 f)) (b +ℤ pos (margin_32 f))) l.sizes)
+    limited (nat_lt (unsigned_abs f.num) l.constants && nat_lt
+    (range_size (a -ℤ pos (margin_32 f)) (b +ℤ pos (margin_32 f))) l.sizes)
     (bounded (a -ℤ pos (margin_32 f)) (b +ℤ pos (margin_32 f)) s (k + (2 * margin_64 f + 2 * l.unit)))
 
 -- the greater of two
@@ -192,9 +207,11 @@ maximum_bound unbounded y = unbounded
 maximum_bound (bounded a b s k) unbounded = unbounded
 maximum_bound (bounded a b s k) (bounded c d t m) = bounded (int_max a c) (int_max b d) (max s t) (max k m)
 
--- the root of a number, from g to h: a width over twice g, and two units; where g is 0, it is no wider than from there to h
+-- the root of a number, from g to h: a width over twice g, and two units; where g is 0, it is no wider than from there
+-- to h
 abbrev pub root_around : Limits → (g h s k : ℕ) → Bound
-root_around l zero h s k = limited (nat_lt (range_size (pos 0) (pos h)) l.sizes) (bounded (pos 0) (pos h) 0 (h * 2 ^ 32))
+root_around l zero h s k = limited (nat_lt (range_size (pos 0) (pos h)) l.sizes)
+    (bounded (pos 0) (pos h) 0 (h * 2 ^ 32))
 root_around l (suc g) h s k =
     limited (nat_lt (range_size (pos (suc g)) (pos h)) l.sizes)
     (bounded (pos (suc g)) (pos h) (ceil_div (s * 2 ^ 31) (suc g - 1)) (ceil_div (k * 2 ^ 31) (suc g - 1) + 2 * l.unit))
@@ -257,7 +274,8 @@ abbrev pub octant_extent : ℕ → (f t : ℕ) → Extent
 octant_extent zero f t = record { least = sine_from f; greatest = sine_to t }
 octant_extent (suc zero) f t = record { least = cosine_from (eighth_turn - f); greatest = pos (2 ^ 32) }
 octant_extent (suc (suc zero)) f t = record { least = cosine_from t; greatest = pos (2 ^ 32) }
-octant_extent (suc (suc (suc zero))) f t = record { least = sine_from (eighth_turn - t); greatest = sine_to (eighth_turn - f) }
+octant_extent (suc (suc (suc zero))) f t =
+    record { least = sine_from (eighth_turn - t); greatest = sine_to (eighth_turn - f) }
 octant_extent (suc (suc (suc (suc j)))) f t = opposites (octant_extent j f t)
 
 -- which octant a number of degrees lies in
@@ -270,7 +288,8 @@ lie_inside k a b = lt_z (k *ℤ pos eighth_turn) a && lt_z b (k *ℤ pos eighth_
 
 -- the sine from a to b degrees inside octant k
 abbrev pub inside_extent : (k a b : ℤ) → Extent
-inside_extent k a b = octant_extent (octant_of_turn k) (unsigned_abs (a -ℤ k *ℤ pos eighth_turn)) (unsigned_abs (b -ℤ k *ℤ pos eighth_turn))
+inside_extent k a b = octant_extent (octant_of_turn k) (unsigned_abs (a -ℤ k *ℤ pos eighth_turn))
+    (unsigned_abs (b -ℤ k *ℤ pos eighth_turn))
 
 -- the sine of degrees of at most this size is no further from 0 than a 57th of them
 abbrev pub sine_near_none : ℕ → Extent
@@ -279,11 +298,16 @@ sine_near_none n = cond (nat_lt n eighth_turn) (record { least = neg_ℤ (sine_t
 
 -- the sine from a to b degrees
 abbrev pub sine_extent : ℤ → ℤ → Extent
-sine_extent a b = cond (lie_inside (octant_at a) a b) (inside_extent (octant_at a) a b) (sine_near_none (range_size a b))
+sine_extent a b = cond (lie_inside (octant_at a) a b) (inside_extent (octant_at a) a b)
+    (sine_near_none (range_size a b))
 
 -- the cosine of degrees of at most this size
 abbrev pub cosine_near_none : ℕ → Extent
-cosine_near_none n = record { least = cond (nat_lt n eighth_turn) (cosine_from n) (neg_ℤ (pos (2 ^ 32))); greatest = pos (2 ^ 32) }
+cosine_near_none n = record {
+  least = cond (nat_lt n eighth_turn) (cosine_from n) (neg_ℤ (pos (2 ^ 32)));
+  greatest = pos
+      (2 ^ 32);
+}
 
 -- 90 degrees more
 abbrev pub quarter_later : ℤ → ℤ
@@ -293,7 +317,8 @@ quarter_later a = a +ℤ pos (90 * 2 ^ 32)
 abbrev pub cosine_extent : ℤ → ℤ → Extent
 cosine_extent a b =
     cond (lie_inside (octant_at (quarter_later a)) (quarter_later a) (quarter_later b))
-    (inside_extent (octant_at (quarter_later a)) (quarter_later a) (quarter_later b)) (cosine_near_none (range_size a b))
+    (inside_extent (octant_at (quarter_later a)) (quarter_later a) (quarter_later b))
+    (cosine_near_none (range_size a b))
 
 -- a sine of these values, as endpoints in units of 2^-56: a 57th of the width, and 36 parts
 abbrev pub spans_over : Extent → (s k : ℕ) → Bound
@@ -317,7 +342,8 @@ pi_spans = bounded (pos 13493037704) (pos 13493037705) 0 (2 ^ 8)
 abbrev pub at_radians : ℤ → ℤ
 at_radians n = floor_quotient (n *ℤ pos 573) 9
 
--- where the arctangent of x is v degrees, that of a number from a on is at least v degrees, less 57.3 times what a lacks of x
+-- where the arctangent of x is v degrees, that of a number from a on is at least v degrees, less 57.3 times what a
+-- lacks of x
 abbrev pub arc_from : (v x a : ℤ) → ℤ
 arc_from v x a = v *ℤ pos (2 ^ 32) +ℤ int_min (pos 0) (at_radians (a -ℤ x *ℤ pos (2 ^ 32)))
 
@@ -333,7 +359,8 @@ greatest_arc b = neg_ℤ (least_arc (neg_ℤ b))
 -- an arctangent, as endpoints in units of 2^-56: 57.3 times the width, and 64 parts
 unfoldable pub arc_spans : Bound → Bound
 arc_spans unbounded = unbounded
-arc_spans (bounded a b s k) = bounded (least_arc a) (greatest_arc b) (ceil_div (s * 573) 9) (ceil_div (k * 573) 9 + 64 * 2 ^ 8)
+arc_spans (bounded a b s k) = bounded (least_arc a) (greatest_arc b) (ceil_div (s * 573) 9)
+    (ceil_div (k * 573) 9 + 64 * 2 ^ 8)
 
 unfoldable pub arctangent_bound : Limits → Bound → Bound
 arctangent_bound l x = spanned_bound l (arc_spans x)
@@ -374,7 +401,8 @@ bound_of l r (widen f x) = widen_bound l f (bound_of l r x)
 bound_of l r pi = spanned_bound l pi_spans
 bound_of l r (sine x) = spanned_bound l (sine_spans (bound_of l r x))
 bound_of l r (cosine x) = spanned_bound l (cosine_spans (bound_of l r x))
-bound_of l r (tangent x) = quotient_bound l (spanned_bound l (sine_spans (bound_of l r x))) (spanned_bound l (cosine_spans (bound_of l r x)))
+bound_of l r (tangent x) = quotient_bound l (spanned_bound l (sine_spans (bound_of l r x)))
+    (spanned_bound l (cosine_spans (bound_of l r x)))
 bound_of l r (root x) = root_bound l (bound_of l r x)
 bound_of l r (arctangent x) = arctangent_bound l (bound_of l r x)
 bound_of l r (arcsine x) = arcsine_bound l (bound_of l r x)

@@ -1,7 +1,9 @@
 -- Expressions over the arguments of a formula, and their values at each depth.
 use Rattle.std.specs.Prelude.{ℕ, ℤ, pos, ◌*ℤ◌}
 use Rattle.exact_math.specs.Fraction.{Fraction, whole}
-use Rattle.exact_math.specs.Interval.{Interval, between, sum, difference, negative, product, quotient, power as interval_power, minimum as interval_minimum, maximum as interval_maximum, hull as interval_hull, clamp as interval_clamp, widen as interval_widen, IsProper}
+use Rattle.exact_math.specs.Interval.{Interval, between, sum, difference, negative, product, quotient}
+use Rattle.exact_math.specs.Interval.{power as interval_power, minimum as interval_minimum, maximum as interval_maximum}
+use Rattle.exact_math.specs.Interval.{hull as interval_hull, clamp as interval_clamp, widen as interval_widen, IsProper}
 use Rattle.book_model.specs.numbers.Series.{pi_at}
 use Rattle.book_model.specs.numbers.Octants.{sine_of_degrees, cosine_of_degrees, tangent_of_degrees}
 use Rattle.book_model.specs.numbers.Roots.{root_of}

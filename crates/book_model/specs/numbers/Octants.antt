@@ -3,7 +3,8 @@
 -- is the hull of all these.
 use Rattle.std.specs.Prelude.{ℕ, zero, suc, unsigned_abs, neg_ℤ, ℤ, pos, ◌+ℤ◌, ◌-ℤ◌, ◌*ℤ◌}
 use Rattle.exact_math.specs.Fraction.{Fraction, whole, plus, opposite, times, smaller, larger, floor_quotient, floor}
-use Rattle.exact_math.specs.Interval.{Interval, everything, between, sum, negative, product, quotient, hull, one, minus_one}
+use Rattle.exact_math.specs.Interval.{Interval, everything, between, sum, negative, product, quotient, hull, one}
+use Rattle.exact_math.specs.Interval.{minus_one}
 use Rattle.exact_math.specs.Sums.{one_over}
 use Rattle.book_model.specs.numbers.Series.{sine_series, cosine_series, pi_at}
 
@@ -56,11 +57,13 @@ last_octant b = floor (times b (one_over 44))
 unfoldable pub first_octant : Fraction → ℤ
 first_octant a = neg_ℤ (last_octant (opposite a)) -ℤ pos 1
 
--- the sine of an interval of degrees at depth n, for n from 1 on; at depth 0 all that is said is that it lies in -1 .. 1
+-- the sine of an interval of degrees at depth n, for n from 1 on; at depth 0 all that is said is that it lies in -1 ..
+-- 1
 unfoldable pub sine_of_degrees : ℕ → Interval → Interval
 sine_of_degrees zero i = between minus_one one
 sine_of_degrees (suc n) everything = between minus_one one
-sine_of_degrees (suc n) (between a b) = hull_from (sine_in (suc n) a b) (first_octant a) (unsigned_abs (last_octant b -ℤ first_octant a))
+sine_of_degrees (suc n) (between a b) = hull_from (sine_in (suc n) a b) (first_octant a)
+    (unsigned_abs (last_octant b -ℤ first_octant a))
 
 -- the cosine is the sine of the interval moved by 90
 unfoldable pub cosine_of_degrees : ℕ → Interval → Interval

@@ -14,24 +14,28 @@ use Rattle.book_model.specs.numbers.Terms.{terms_of}
 
 -- a0 + a1 x + a2 x^2
 unfoldable pub quadratic_of : Quadratic → Expression → Expression
-quadratic_of p x = add (add (constant (fraction_of p.constant)) (scale (fraction_of p.linear) x)) (scale (fraction_of p.square) (power x 2))
+quadratic_of p x = add (add (constant (fraction_of p.constant)) (scale (fraction_of p.linear) x))
+    (scale (fraction_of p.square) (power x 2))
 
 -- a0 + a1 x + a2 x^2 + a3 x^3
 unfoldable pub cubic_of : Cubic → Expression → Expression
 cubic_of p x =
-    add (add (add (constant (fraction_of p.constant)) (scale (fraction_of p.linear) x)) (scale (fraction_of p.square) (power x 2)))
+    add (add (add (constant (fraction_of p.constant)) (scale (fraction_of p.linear) x))
+    (scale (fraction_of p.square) (power x 2)))
     (scale (fraction_of p.cube) (power x 3))
 
 -- a0 + a1 x + a2 x^2 + a3 x^3 + a4 x^4
 unfoldable pub quartic_of : Quartic → Expression → Expression
 quartic_of p x =
-    add (add (add (add (constant (fraction_of p.constant)) (scale (fraction_of p.linear) x)) (scale (fraction_of p.square) (power x 2)))
+    add (add (add (add (constant (fraction_of p.constant)) (scale (fraction_of p.linear) x))
+    (scale (fraction_of p.square) (power x 2)))
     (scale (fraction_of p.cube) (power x 3))) (scale (fraction_of p.fourth) (power x 4))
 
 -- a0 + a1 c + a2 c^2 + .. at an exact fraction c, to the term before that of index n
 unfoldable pub polynomial_at_to : List Frac → Fraction → ℕ → Expression
 polynomial_at_to cs c zero = integer (pos 0)
-polynomial_at_to cs c (suc n) = add (polynomial_at_to cs c n) (scale (fraction_of (slice_index_or cs n no_fraction)) (constant (fraction_power c n)))
+polynomial_at_to cs c (suc n) = add (polynomial_at_to cs c n) (scale (fraction_of (slice_index_or cs n no_fraction))
+    (constant (fraction_power c n)))
 
 -- the polynomial with these coefficients at an exact fraction
 unfoldable pub polynomial_at : List Frac → Fraction → Expression

@@ -37,17 +37,20 @@ is_inside lo hi a b = cond (is_at_most lo a) (is_at_most b hi) false
 -- the sine, which rises on 0 .. 4/5, of an interval in radians; of an interval that leaves 0 .. 4/5 nothing is said
 unfoldable pub sine_series : ℕ → Interval → Interval
 sine_series n everything = everything
-sine_series n (between a b) = cond (is_inside zero_fraction four_fifths a b) (between (lower (sine_term a) n) (upper (sine_term b) n)) everything
+sine_series n (between a b) = cond (is_inside zero_fraction four_fifths a b)
+    (between (lower (sine_term a) n) (upper (sine_term b) n)) everything
 
 -- the cosine, which falls there
 unfoldable pub cosine_series : ℕ → Interval → Interval
 cosine_series n everything = everything
-cosine_series n (between a b) = cond (is_inside zero_fraction four_fifths a b) (between (lower (cosine_term b) n) (upper (cosine_term a) n)) everything
+cosine_series n (between a b) = cond (is_inside zero_fraction four_fifths a b)
+    (between (lower (cosine_term b) n) (upper (cosine_term a) n)) everything
 
 -- k times an interval
 unfoldable pub scaled : ℕ → Interval → Interval
 scaled k everything = everything
-scaled k (between a b) = between (times (record { num = pos k; below = 0 }) a) (times (record { num = pos k; below = 0 }) b)
+scaled k (between a b) = between (times (record { num = pos k; below = 0 }) a)
+    (times (record { num = pos k; below = 0 }) b)
 
 -- the arctangent of a fraction
 abbrev pub arctan_at : ℕ → Fraction → Interval

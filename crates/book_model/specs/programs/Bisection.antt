@@ -34,7 +34,8 @@ bisected_of zero f y l u = bind (are_near_of l u) λ near. if near then answer (
 bisected_of (suc more) f y l u =
     bind (are_near_of l u) λ near.
     if near then answer (middle_of l u)
-    else (bind (has_passed_at f y (middle_of l u)) λ passed. if passed then bisected_of more f y l (middle_of l u) else bisected_of more f y (middle_of l u) u)
+    else (bind (has_passed_at f y (middle_of l u)) λ passed. if passed then bisected_of more f y l (middle_of l u)
+    else bisected_of more f y (middle_of l u) u)
 
 -- the number between two others at which a function passes an angle
 unfoldable pub invert_of : (Expression → Program Expression) → (target low high : Expression) → Program Expression

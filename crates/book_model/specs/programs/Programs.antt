@@ -88,7 +88,8 @@ unfoldable pub run : {A : Type 0} → World → Program A → Run A
 run w (answer a) = answered a
 run w (void s) = voided s
 run w (cell s g x next) = after_cell s g (value w x) (cell_at g (value w x)) (λ q. run w (next q))
-run w (compare s x y next) = after_compare s (value w x) (value w y) (compare_at (value w x) (value w y)) (λ t. run w (next t))
+run w (compare s x y next) = after_compare s (value w x) (value w y) (compare_at (value w x) (value w y))
+    (λ t. run w (next t))
 
 -- what a run ends in
 pub data Outcome (A : Type 0) : Type 0 where
@@ -106,14 +107,17 @@ outcome (decided s i r rest) = outcome rest
 pub data MakesTest {A : Type 0} : Run A → ℕ → Site → Sides → Type 0 where
   here_decided : {s : Site} {i : Sides} {r : Reply} {rest : Run A} → MakesTest (decided s i r rest) 1 s i
   here_undecided : {s : Site} {i : Sides} → MakesTest {A = A} (undecided s i) 1 s i
-  later : {s t : Site} {i j : Sides} {r : Reply} {rest : Run A} {k : ℕ} → MakesTest rest k s i → MakesTest (decided t j r rest) (suc k) s i
+  later : {s t : Site} {i j : Sides} {r : Reply} {rest : Run A} {k : ℕ} → MakesTest rest k s i
+      → MakesTest (decided t j r rest) (suc k) s i
 
 -- the program makes at most this many tests, whatever their answers
 pub data AtMost {A : Type 0} : ℕ → Program A → Type 0 where
   answer_at_most : {n : ℕ} {a : A} → AtMost n (answer a)
   void_at_most : {n : ℕ} {s : Site} → AtMost n (void s)
-  cell_at_most : {n : ℕ} {s : Site} {g : Grid} {x : Expression} {next : ℤ → Program A} → ((q : ℤ) → AtMost n (next q)) → AtMost (suc n) (cell s g x next)
-  compare_at_most : {n : ℕ} {s : Site} {x y : Expression} {next : Bool → Program A} → ((t : Bool) → AtMost n (next t)) → AtMost (suc n) (compare s x y next)
+  cell_at_most : {n : ℕ} {s : Site} {g : Grid} {x : Expression} {next : ℤ → Program A} → ((q : ℤ) → AtMost n (next q))
+      → AtMost (suc n) (cell s g x next)
+  compare_at_most : {n : ℕ} {s : Site} {x y : Expression} {next : Bool → Program A} → ((t : Bool) → AtMost n (next t))
+      → AtMost (suc n) (compare s x y next)
 
 -- the sides of one test lie within those of another
 pub data AreInner : Sides → Sides → Type 0 where
@@ -126,5 +130,7 @@ pub data Refines {A : Type 0} : Run A → Run A → Type 0 where
   same_answer : {a : A} → Refines (answered a) (answered a)
   same_void : {s : Site} → Refines (voided s) (voided s)
   still_undecided : {s : Site} {i j : Sides} → AreInner i j → Refines (undecided s i) (undecided s j)
-  now_decided : {s : Site} {i j : Sides} {r : Reply} {rest : Run A} → AreInner i j → Refines (decided s i r rest) (undecided s j)
-  same_test : {s : Site} {i j : Sides} {r : Reply} {p q : Run A} → AreInner i j → Refines p q → Refines (decided s i r p) (decided s j r q)
+  now_decided : {s : Site} {i j : Sides} {r : Reply} {rest : Run A} → AreInner i j
+      → Refines (decided s i r rest) (undecided s j)
+  same_test : {s : Site} {i j : Sides} {r : Reply} {p q : Run A} → AreInner i j → Refines p q
+      → Refines (decided s i r p) (decided s j r q)

@@ -1,5 +1,7 @@
--- How wide the results of calls are: what an answer keeps, and how far apart the bounds of an undecided test lie at most.
-use Rattle.std.specs.Prelude.{◌≡◌, ℕ, ◌*◌, ◌^◌, ◌≤◌, ℤ, pos, neg_ℤ, ◌+ℤ◌, ◌-ℤ◌, ◌*ℤ◌, ◌≤ℤ◌, Result, Ok, Err, IfOk, IfErr}
+-- How wide the results of calls are: what an answer keeps, and how far apart the bounds of an undecided test lie at
+-- most.
+use Rattle.std.specs.Prelude.{◌≡◌, ℕ, ◌*◌, ◌^◌, ◌≤◌, ℤ, pos, neg_ℤ, ◌+ℤ◌, ◌-ℤ◌, ◌*ℤ◌, ◌≤ℤ◌, Result, Ok, Err, IfOk}
+use Rattle.std.specs.Prelude.{IfErr}
 use Rattle.exact_math.specs.Interval.{Interval}
 use Rattle.book_model.specs.declared.site.Site.{Site}
 use Rattle.book_model.specs.declared.site.Site.TheVariants.{Bisect, BisectEnd}
@@ -7,11 +9,12 @@ use Rattle.book_model.specs.declared.fail.Undecided.{Undecided}
 use Rattle.book_model.specs.declared.fail.Fail.{Fail}
 use Rattle.book_model.specs.declared.fail.Fail.TheVariants.{Undecided as undecided_at, Void}
 use Rattle.book_model.specs.declared.fact.TheConstants.{FIRST_FACT_DAY, LAST_FACT_DAY}
-use Rattle.book_model.specs.declared.time_tables.TheConstants.{TABLE_START, TABLE_END, FIRST_CENTURY, LAST_CENTURY, RECENT_START, FIRST_RECENT_HALF_CENTURY}
+use Rattle.book_model.specs.declared.time_tables.TheConstants.{TABLE_START, TABLE_END, FIRST_CENTURY, LAST_CENTURY}
+use Rattle.book_model.specs.declared.time_tables.TheConstants.{RECENT_START, FIRST_RECENT_HALF_CENTURY}
 use Rattle.book_model.specs.numbers.Bounds.{Bound, bounded, IsNarrow}
 
--- how far apart the bounds of an undecided test lie at most at a site, in 2^-64: a 2^24th at the tests of a bisection, and a
--- 2^20th elsewhere
+-- how far apart the bounds of an undecided test lie at most at a site, in 2^-64: a 2^24th at the tests of a bisection,
+-- and a 2^20th elsewhere
 abbrev pub most_apart : Site → ℕ
 most_apart Bisect = 2 ^ 40
 most_apart BisectEnd = 2 ^ 40
@@ -105,23 +108,32 @@ abbrev pub Measured : {E : Type 0} → ℕ → (E → Interval) → (Interval �
 Measured bits shown answer result = bits ≡ 56 → Measures (λ y. answer (shown y)) result
 
 -- the same by the width of an argument, of each width up to the greatest
-abbrev pub Measured1 : {E : Type 0} → ℕ → (E → Interval) → (greatest : ℕ) → (argument answer : ℕ → Interval → Type 0) → E → Result E Fail → Type 0
-Measured1 bits shown greatest argument answer a result = (v : ℕ) → bits ≡ 56 → v ≤ greatest → argument v (shown a) → Measures (λ y. answer v (shown y)) result
+abbrev pub Measured1 : {E : Type 0} → ℕ → (E → Interval) → (greatest : ℕ) → (argument answer : ℕ → Interval → Type 0)
+    → E → Result E Fail → Type 0
+Measured1 bits shown greatest argument answer a result = (v : ℕ) → bits ≡ 56 → v ≤ greatest → argument v (shown a)
+    → Measures (λ y. answer v (shown y)) result
 
 -- the same by the width that goes with two arguments
-abbrev pub Measured2 : {E : Type 0} → ℕ → (E → Interval) → (greatest : ℕ) → (first second answer : ℕ → Interval → Type 0) → (a b : E) → Result E Fail → Type 0
+abbrev pub Measured2 : {E : Type 0} → ℕ → (E → Interval) → (greatest : ℕ)
+    → (first second answer : ℕ → Interval → Type 0) → (a b : E) → Result E Fail → Type 0
 Measured2 bits shown greatest first second answer a b result =
-    (v : ℕ) → bits ≡ 56 → v ≤ greatest → first v (shown a) → second v (shown b) → Measures (λ y. answer v (shown y)) result
+    (v : ℕ) → bits ≡ 56 → v ≤ greatest → first v (shown a) → second v (shown b)
+    → Measures (λ y. answer v (shown y)) result
 
 -- at that scale: a failure is close, where an argument is as wide as said, of each width up to the greatest
-abbrev pub Closes1 : {E T : Type 0} → ℕ → (E → Interval) → (greatest : ℕ) → (argument : ℕ → Interval → Type 0) → E → Result T Fail → Type 0
-Closes1 bits shown greatest argument a result = (v : ℕ) → bits ≡ 56 → v ≤ greatest → argument v (shown a) → IfErr result IsClose
+abbrev pub Closes1 : {E T : Type 0} → ℕ → (E → Interval) → (greatest : ℕ) → (argument : ℕ → Interval → Type 0) → E
+    → Result T Fail → Type 0
+Closes1 bits shown greatest argument a result = (v : ℕ) → bits ≡ 56 → v ≤ greatest → argument v (shown a)
+    → IfErr result IsClose
 
 -- an answer is as wide as said, where an argument is, of each width up to the greatest; nothing of a failure
-abbrev pub Answers1 : {E : Type 0} → ℕ → (E → Interval) → (greatest : ℕ) → (argument answer : ℕ → Interval → Type 0) → E → Result E Fail → Type 0
-Answers1 bits shown greatest argument answer a result = (v : ℕ) → bits ≡ 56 → v ≤ greatest → argument v (shown a) → IfOk result (λ y. answer v (shown y))
+abbrev pub Answers1 : {E : Type 0} → ℕ → (E → Interval) → (greatest : ℕ) → (argument answer : ℕ → Interval → Type 0) → E
+    → Result E Fail → Type 0
+Answers1 bits shown greatest argument answer a result = (v : ℕ) → bits ≡ 56 → v ≤ greatest → argument v (shown a)
+    → IfOk result (λ y. answer v (shown y))
 
 -- the same by the width that goes with two arguments
-abbrev pub Answers2 : {E : Type 0} → ℕ → (E → Interval) → (greatest : ℕ) → (first second answer : ℕ → Interval → Type 0) → (a b : E) → Result E Fail → Type 0
+abbrev pub Answers2 : {E : Type 0} → ℕ → (E → Interval) → (greatest : ℕ) → (first second answer : ℕ → Interval → Type 0)
+    → (a b : E) → Result E Fail → Type 0
 Answers2 bits shown greatest first second answer a b result =
     (v : ℕ) → bits ≡ 56 → v ≤ greatest → first v (shown a) → second v (shown b) → IfOk result (λ y. answer v (shown y))

@@ -1,6 +1,7 @@
--- Polynomials at a whole number, the rows of ΔT (dynamical less universal time), and the tests of a year and of a rounding.
--- Reingold and Dershowitz, Calendrical Calculations, chapter 14, ephemeris correction.
-use Rattle.std.specs.Prelude.{ℕ, zero, suc, ◌&&◌, Bool, if◌then◌else◌, ℤ, pos, ◌-ℤ◌, ◌*ℤ◌, List, [], ◌∷◌, length, map, slice_index_or, int_le, Option, Some, None}
+-- Polynomials at a whole number, the rows of ΔT (dynamical less universal time), and the tests of a year and of a
+-- rounding. Reingold and Dershowitz, Calendrical Calculations, chapter 14, ephemeris correction.
+use Rattle.std.specs.Prelude.{ℕ, zero, suc, ◌&&◌, Bool, if◌then◌else◌, ℤ, pos, ◌-ℤ◌, ◌*ℤ◌, List, [], ◌∷◌, length, map}
+use Rattle.std.specs.Prelude.{slice_index_or, int_le, Option, Some, None}
 use Rattle.book_model.specs.declared.correction_rows.CorrectionForm.{CorrectionForm}
 use Rattle.book_model.specs.declared.correction_rows.TheConstants.{CORRECTIONS}
 use Rattle.book_model.specs.declared.frac.Frac.{Frac}
@@ -23,7 +24,8 @@ no_fraction = record { num = pos 0; den = 0 }
 -- a0 + a1 x + a2 x^2 + .., to the term before that of index n
 unfoldable pub polynomial_to : List Frac → ℤ → ℕ → Expression
 polynomial_to cs x zero = integer (pos 0)
-polynomial_to cs x (suc n) = add (polynomial_to cs x n) (scale (fraction_of (slice_index_or cs n no_fraction)) (integer (int_power x n)))
+polynomial_to cs x (suc n) = add (polynomial_to cs x n) (scale (fraction_of (slice_index_or cs n no_fraction))
+    (integer (int_power x n)))
 
 -- the polynomial with these coefficients at a whole number
 unfoldable pub polynomial_of : List Frac → ℤ → Expression
@@ -37,8 +39,8 @@ abbrev pub is_between : ℤ → ℤ → ℤ → Bool
 is_between low high z = int_le low z && int_le z high
 
 -- ---- the rows of the table
--- a row: its years, how its polynomial is taken, the coefficients, how many units of a scale an enclosure of its ΔT is wide
--- at most, and the first version of certificates that has it
+-- a row: its years, how its polynomial is taken, the coefficients, how many units of a scale an enclosure of its ΔT is
+-- wide at most, and the first version of certificates that has it
 pub record Correction : Type 0 where
   pub first : ℤ
   pub last : ℤ

@@ -1,8 +1,9 @@
--- The first visibility of the crescent by Shaukat's criterion: when the sun stands 4.5 degrees below the horizon, the arc of light
--- (ARCL, the moon's elongation from the sun) is at least 10.6 degrees and the moon's altitude above 4.1. Angles are in degrees,
--- moments in days (R.D.). Reingold and Dershowitz, Calendrical Calculations, chapters 14 and 18.
+-- The first visibility of the crescent by Shaukat's criterion: when the sun stands 4.5 degrees below the horizon, the
+-- arc of light (ARCL, the moon's elongation from the sun) is at least 10.6 degrees and the moon's altitude above 4.1.
+-- Angles are in degrees, moments in days (R.D.). Reingold and Dershowitz, Calendrical Calculations, chapters 14 and 18.
 use Rattle.std.specs.Prelude.{Bool, false, not, if◌then◌else◌, ℤ, pos, ◌-ℤ◌, int_le}
-use Rattle.book_model.specs.declared.crescent_tables.TheConstants.{CRESCENT_DEPRESSION, LEAST_ALTITUDE, LEAST_ARC_OF_LIGHT}
+use Rattle.book_model.specs.declared.crescent_tables.TheConstants.{CRESCENT_DEPRESSION, LEAST_ALTITUDE}
+use Rattle.book_model.specs.declared.crescent_tables.TheConstants.{LEAST_ARC_OF_LIGHT}
 use Rattle.book_model.specs.declared.horizon.Location.{Location}
 use Rattle.book_model.specs.declared.site.Site.TheVariants.{Crescent}
 use Rattle.book_model.specs.numbers.Expressions.{Expression, integer, constant, add, multiply, sine, cosine}
@@ -19,7 +20,8 @@ use Rattle.book_model.specs.sky.Time.{centuries_of, sidereal_of}
 
 -- when the crescent is looked for on the evening with which a day begins, in universal time
 unfoldable pub evening_of : Location → ℤ → Program Expression
-evening_of p d = bind (dusk_of p (constant (fraction_of CRESCENT_DEPRESSION)) (d -ℤ pos 1)) λ x. answer (universal_of (fraction_of p.longitude) x)
+evening_of p d = bind (dusk_of p (constant (fraction_of CRESCENT_DEPRESSION)) (d -ℤ pos 1)) λ x. answer
+    (universal_of (fraction_of p.longitude) x)
 
 -- ---- what is compared
 -- the cosine of the arc of light, by the moon's latitude and its phase
@@ -41,7 +43,8 @@ is_before_quarter_of f = compare Crescent f (integer (pos 90)) answer
 
 -- the arc of light, by its cosine, is at least 10.6 degrees
 unfoldable pub is_lit_of : Expression → Program Bool
-is_lit_of a = bind (compare Crescent (cosine (constant (fraction_of LEAST_ARC_OF_LIGHT))) a answer) λ more. answer (not more)
+is_lit_of a = bind (compare Crescent (cosine (constant (fraction_of LEAST_ARC_OF_LIGHT))) a answer) λ more. answer
+    (not more)
 
 -- and at most 90
 unfoldable pub is_within_quarter_of : Expression → Program Bool
@@ -61,7 +64,8 @@ is_crescent_of f a h = and_also (is_past_new_of f) (and_also (is_before_quarter_
 
 -- the same by the moon's phase, the obliquity, the moon's longitude and latitude and the sidereal time at Greenwich
 unfoldable pub meets_of : Location → (phase obliquity longitude latitude sidereal : Expression) → Program Bool
-meets_of p f o l b t = is_crescent_of f (arc_cosine_of b f) (altitude_sine_of (fraction_of p.latitude) (add t (constant (fraction_of p.longitude))) o l b)
+meets_of p f o l b t = is_crescent_of f (arc_cosine_of b f)
+    (altitude_sine_of (fraction_of p.latitude) (add t (constant (fraction_of p.longitude))) o l b)
 
 -- the same by the phase and the obliquity, at a moment
 unfoldable pub meets_with_of : Location → (x phase obliquity : Expression) → Program Bool
@@ -87,12 +91,14 @@ unfoldable pub visible_of : Location → ℤ → Program Bool
 visible_of p d = bind (evening_of p d) (meets_at_of p)
 
 -- ---- the first visibility
--- the day from which the first visibility is sought: that of the new moon, or, where the crescent of that isn't seen yet, 30 before
+-- the day from which the first visibility is sought: that of the new moon, or, where the crescent of that isn't seen
+-- yet, 30 before
 unfoldable pub start_by : ℤ → Bool → ℤ
 start_by m seen = if seen then m else m -ℤ pos 30
 
 unfoldable pub visibility_start_of : Location → (d m : ℤ) → Program ℤ
-visibility_start_of p d m = if int_le (d -ℤ m) (pos 3) then (bind (visible_of p d) λ seen. answer (start_by m seen)) else answer m
+visibility_start_of p d m = if int_le (d -ℤ m) (pos 3) then (bind (visible_of p d) λ seen. answer (start_by m seen))
+    else answer m
 
 -- the first day on whose evening before the crescent is seen, from where the day of the last new moon tells
 unfoldable pub visibility_after_of : Location → (d m : ℤ) → Program ℤ

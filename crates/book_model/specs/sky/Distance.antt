@@ -1,5 +1,5 @@
--- The distance of the moon's centre from the earth's, in kilometres. Reingold and Dershowitz, Calendrical Calculations, chapter 14;
--- Meeus, Astronomical Algorithms, chapter 47.
+-- The distance of the moon's centre from the earth's, in kilometres. Reingold and Dershowitz, Calendrical Calculations,
+-- chapter 14; Meeus, Astronomical Algorithms, chapter 47.
 use Rattle.std.specs.Prelude.{ℤ, pos, unsigned_abs}
 use Rattle.exact_math.specs.Fraction.{Fraction, whole}
 use Rattle.book_model.specs.declared.moon_tables.TheConstants.{MEAN_DISTANCE, MOON_TERMS}
@@ -11,8 +11,10 @@ use Rattle.book_model.specs.sky.Moon.{LunarAngles, lunar_angles_of, lunar_angle_
 use Rattle.book_model.specs.sky.Time.{centuries_of}
 
 -- r E^|m| cos(d D + m M + m' M' + f F)
-unfoldable pub distance_part_of : LunarAngles → (elongation sun_anomaly moon_anomaly latitude_argument size : ℤ) → Expression
-distance_part_of a d m n f r = scale (whole r) (times_power a.eccentricity (unsigned_abs m) (cosine (lunar_angle_of a d m n f)))
+unfoldable pub distance_part_of : LunarAngles → (elongation sun_anomaly moon_anomaly latitude_argument size : ℤ)
+    → Expression
+distance_part_of a d m n f r =
+    scale (whole r) (times_power a.eccentricity (unsigned_abs m) (cosine (lunar_angle_of a d m n f)))
 
 -- a term of the distance, in metres
 unfoldable pub distance_term_of : LunarAngles → MoonTerm → Expression

@@ -8,21 +8,26 @@ use Rattle.book_model.specs.declared.fact.Fact.{Fact}
 use Rattle.book_model.specs.declared.fact.Kind.{Kind}
 use Rattle.book_model.specs.declared.fact.Kind.TheVariants as kinds
 use Rattle.book_model.specs.declared.fact.Place.{Place}
-use Rattle.book_model.specs.declared.fact.TheConstants.{FIRST_FACT_DAY, LAST_FACT_DAY, FIRST_DAY, LAST_DAY, LEAST_VALUE, GREATEST_VALUE}
+use Rattle.book_model.specs.declared.fact.TheConstants.{FIRST_FACT_DAY, LAST_FACT_DAY, FIRST_DAY, LAST_DAY, LEAST_VALUE}
+use Rattle.book_model.specs.declared.fact.TheConstants.{GREATEST_VALUE}
 use Rattle.book_model.specs.declared.fail.Undecided.{Undecided}
 use Rattle.book_model.specs.sky.Correction.{is_between, rounded_of}
 use Rattle.book_model.specs.numbers.Expressions.{World, integer}
-use Rattle.book_model.specs.sky.Kinds.{dt_of, sun_in_thousandths_of, nowruz_of, bahai_year_of, solstice_of, new_moon_before_of, new_moon_from_of, major_of, term_day_of, located, sunset_in_minutes_of, french_year_of}
+use Rattle.book_model.specs.sky.Kinds.{dt_of, sun_in_thousandths_of, nowruz_of, bahai_year_of, solstice_of}
+use Rattle.book_model.specs.sky.Kinds.{new_moon_before_of, new_moon_from_of, major_of, term_day_of, located}
+use Rattle.book_model.specs.sky.Kinds.{sunset_in_minutes_of, french_year_of}
 use Rattle.book_model.specs.sky.Crescent.{phasis_of}
 use Rattle.book_model.specs.sky.Distance.{distance_of}
-use Rattle.book_model.specs.sky.HinduFacts.{sign_at_sunset_of, year_at_sunset_of, sankranti_of, tithi_of, sign_before_of, sign_after_of, calendar_year_of}
+use Rattle.book_model.specs.sky.HinduFacts.{sign_at_sunset_of, year_at_sunset_of, sankranti_of, tithi_of}
+use Rattle.book_model.specs.sky.HinduFacts.{sign_before_of, sign_after_of, calendar_year_of}
 use Rattle.book_model.specs.sky.Moonrise.{moonrise_of, moonset_of}
 use Rattle.book_model.specs.sky.Nisan.{nisan_of}
 use Rattle.book_model.specs.sky.Phases.{phase_day_of}
 use Rattle.book_model.specs.programs.Leading.{units_of_56}
 use Rattle.book_model.specs.programs.Widths.{most_apart}
 use Rattle.book_model.specs.sky.Names.{has_place, location_of, whole_days, is_of_whole_day}
-use Rattle.book_model.specs.programs.Programs.{Grid, threshold, Program, bind, void, Run, run, valued, void_at, outcome, MakesTest, Sides, one_side, two_sides}
+use Rattle.book_model.specs.programs.Programs.{Grid, threshold, Program, bind, void, Run, run, valued, void_at, outcome}
+use Rattle.book_model.specs.programs.Programs.{MakesTest, Sides, one_side, two_sides}
 use Rattle.book_model.specs.numbers.Depth.{DEPTH}
 
 -- a day of which a fact may be asked

@@ -40,7 +40,8 @@ sign_entered_of d x =
     bind (whole_degrees_of x) λ degrees.
     first_day_from (has_sign_at g) (before_sign d degrees)
 
--- the first day of the solar month in which a day falls: by whose sunset the sun has come into its sign, which is its sankranti
+-- the first day of the solar month in which a day falls: by whose sunset the sun has come into its sign, which is its
+-- sankranti
 unfoldable pub sankranti_of : ℤ → Program ℤ
 sankranti_of d = bind (hindu_sunset_of d) (sign_entered_of d)
 

@@ -1,16 +1,19 @@
--- Dawn, dusk and sunset at a location: when the sun stands so many degrees below the horizon, which is its depression. Angles are
--- in degrees, moments in days (R.D.) of local mean time, but where universal time is named. Reingold and Dershowitz,
--- Calendrical Calculations, chapter 14.
+-- Dawn, dusk and sunset at a location: when the sun stands so many degrees below the horizon, which is its depression.
+-- Angles are in degrees, moments in days (R.D.) of local mean time, but where universal time is named. Reingold and
+-- Dershowitz, Calendrical Calculations, chapter 14.
 use Rattle.std.specs.Prelude.{ℕ, zero, suc, ◌+◌, ◌-◌, Bool, if◌then◌else◌, ℤ, pos, ◌*ℤ◌}
 use Rattle.exact_math.specs.Fraction.{Fraction}
 use Rattle.book_model.specs.declared.horizon.Location.{Location}
 use Rattle.book_model.specs.declared.horizon.Twilight.{Twilight}
 use Rattle.book_model.specs.declared.horizon.Twilight.TheVariants.{Dawn, Dusk}
-use Rattle.book_model.specs.declared.location_tables.TheConstants.{QUARTER, THREE_QUARTERS, HALF_MINUTE, REFRACTION, REFRACTION_OF_HEIGHT, HALF_SUN, EARTH_RADIUS, UJJAIN, HINDU_SUNRISE_DEPRESSION, MINUTES, MINUTES_OF_DAY}
+use Rattle.book_model.specs.declared.location_tables.TheConstants.{QUARTER, THREE_QUARTERS, HALF_MINUTE, REFRACTION}
+use Rattle.book_model.specs.declared.location_tables.TheConstants.{REFRACTION_OF_HEIGHT, HALF_SUN, EARTH_RADIUS, UJJAIN}
+use Rattle.book_model.specs.declared.location_tables.TheConstants.{HINDU_SUNRISE_DEPRESSION, MINUTES, MINUTES_OF_DAY}
 use Rattle.book_model.specs.declared.site.Site.TheVariants.{DayFloor, Offset, Round, Settle}
 use Rattle.book_model.specs.declared.sun_tables.TheConstants.{DEGREE_IN_DAYS}
 use Rattle.book_model.specs.declared.tables.TheConstants.{HALF}
-use Rattle.book_model.specs.numbers.Expressions.{Expression, integer, constant, add, subtract, multiply, divide, scale, root, sine, cosine, tangent, arcsine, arccosine}
+use Rattle.book_model.specs.numbers.Expressions.{Expression, integer, constant, add, subtract, multiply, divide, scale}
+use Rattle.book_model.specs.numbers.Expressions.{root, sine, cosine, tangent, arcsine, arccosine}
 use Rattle.book_model.specs.numbers.Fractions.{fraction_of}
 use Rattle.book_model.specs.sky.Noon.{ahead_of, from_apparent_of}
 use Rattle.book_model.specs.sky.Phases.{size_of}
@@ -42,13 +45,15 @@ by_declination l d = multiply (tangent l) (tangent d)
 abbrev pub by_depression : (l a d : Expression) → Expression
 by_depression l a d = divide (sine a) (multiply (cosine d) (cosine l))
 
--- the sine of the hour angle at which the sun has a depression, less a quarter of a turn: by the latitude and the declination
+-- the sine of the hour angle at which the sun has a depression, less a quarter of a turn: by the latitude and the
+-- declination
 unfoldable pub offset_by : Fraction → (a d : Expression) → Expression
 offset_by l a d = add (by_declination (constant l) d) (by_depression (constant l) a d)
 
 -- the same for the sun's declination at a moment
 unfoldable pub offset_of : Location → (a x : Expression) → Program Expression
-offset_of p a x = bind (declination_of (universal_of (fraction_of p.longitude) x)) λ d. answer (offset_by (fraction_of p.latitude) a d)
+offset_of p a x = bind (declination_of (universal_of (fraction_of p.longitude) x)) λ d. answer
+    (offset_by (fraction_of p.latitude) a d)
 
 -- whether it is no sine of an angle, so that the sun doesn't reach the depression
 unfoldable pub is_out_of_reach : Expression → Program Bool
@@ -90,7 +95,8 @@ apparent_by Dusk d s = add (quarter_of Dusk d) (part_of s)
 
 -- the moment on a day, from one near to it
 unfoldable pub approximation_on : Location → Twilight → Expression → Expression → ℤ → Program Expression
-approximation_on p k a x d = bind (near_offset_of p k a d x) λ s. from_apparent_of (fraction_of p.longitude) (apparent_by k d s)
+approximation_on p k a x d = bind (near_offset_of p k a d x) λ s. from_apparent_of (fraction_of p.longitude)
+    (apparent_by k d s)
 
 -- the moment at which the sun has the depression, from one near to it
 unfoldable pub approximation_of : Location → Twilight → (a x : Expression) → Program Expression
@@ -101,10 +107,12 @@ approximation_of p k a x = bind (cell DayFloor integers x answer) (approximation
 unfoldable pub has_settled_of : (x y : Expression) → Program Bool
 has_settled_of x y = compare Settle (size_of (subtract y x)) (constant (fraction_of HALF_MINUTE)) answer
 
--- approximations, so many at most, from a moment on until two are less than half a minute apart; where none are it is void
+-- approximations, so many at most, from a moment on until two are less than half a minute apart; where none are it is
+-- void
 unfoldable pub settled_of : ℕ → Location → Twilight → (a x : Expression) → Program Expression
 settled_of zero p k a x = void Settle
-settled_of (suc more) p k a x = bind (approximation_of p k a x) λ y. bind (has_settled_of x y) λ settled. if settled then answer y else settled_of more p k a y
+settled_of (suc more) p k a x = bind (approximation_of p k a x) λ y. bind (has_settled_of x y) λ settled. if settled
+    then answer y else settled_of more p k a y
 
 -- dawn and dusk of a day by a depression
 unfoldable pub depression_of : Location → Twilight → Expression → ℤ → Program Expression
@@ -141,7 +149,8 @@ unfoldable pub sunset_of : Location → ℤ → Program Expression
 sunset_of p d = bind (dusk_of p (sunset_depression_of p) d) λ x. answer (universal_of (fraction_of p.longitude) x)
 
 -- ---- sunrise and sunset of the Hindu calendars, at Ujjain
--- minutes from the day of R.D. 0 to a moment of a day, rounded: those to the beginning of the day, which are whole, and those after it
+-- minutes from the day of R.D. 0 to a moment of a day, rounded: those to the beginning of the day, which are whole, and
+-- those after it
 abbrev pub minutes_after_of : ℤ → Expression → Expression
 minutes_after_of d x = add (scale (fraction_of MINUTES_OF_DAY) (subtract x (integer d))) (constant (fraction_of HALF))
 
@@ -161,4 +170,5 @@ sunrise_of d =
 
 -- when the sun's middle sets on a day, the air left out, as universal time
 unfoldable pub hindu_sunset_of : ℤ → Program Expression
-hindu_sunset_of d = bind (dusk_of UJJAIN (integer (pos 0)) d) λ x. answer (universal_of (fraction_of UJJAIN.longitude) x)
+hindu_sunset_of d = bind (dusk_of UJJAIN (integer (pos 0)) d) λ x. answer
+    (universal_of (fraction_of UJJAIN.longitude) x)

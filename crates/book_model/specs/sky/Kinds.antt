@@ -95,7 +95,8 @@ located (Some location) formula = formula location
 
 -- a moment on a day at a place, in minutes of its time after midnight, not rounded
 unfoldable pub minutes_of : Place → ℤ → Expression → Expression
-minutes_of place d x = scale (fraction_of MINUTES_OF_DAY) (subtract (add x (scale (fraction_of HOUR) (constant (fraction_of (zone_on place d))))) (integer d))
+minutes_of place d x = scale (fraction_of MINUTES_OF_DAY)
+    (subtract (add x (scale (fraction_of HOUR) (constant (fraction_of (zone_on place d))))) (integer d))
 
 -- sunset on a day at the location of a place, in these minutes, rounded
 unfoldable pub sunset_in_minutes_of : Place → Location → ℤ → Program ℤ
@@ -120,8 +121,8 @@ new_moon_from_of place d = bind (moon_from_of (midnight_of place d)) (day_at pla
 unfoldable pub longitude_at_midnight_of : Place → ℤ → Program Expression
 longitude_at_midnight_of place d = sun_of (midnight_of place d)
 
--- how many major solar terms, which are 30 degrees apart, the sun has passed since the spring equinox when a day begins at a
--- place
+-- how many major solar terms, which are 30 degrees apart, the sun has passed since the spring equinox when a day begins
+-- at a place
 unfoldable pub terms_passed_of : Place → ℤ → Program ℤ
 terms_passed_of place d =
     bind (longitude_at_midnight_of place d) λ s.
@@ -145,6 +146,7 @@ term_longitude r spans = modulo (r -ℤ pos 30 *ℤ spans) 360
 unfoldable pub longitude_day_of : Place → (l d : ℤ) → Program ℤ
 longitude_day_of place l d = bind (sun_from_of (integer l) (midnight_of place d)) (day_at place)
 
--- the day at a place on which the sun reaches the first of the longitudes r, r + 30, r + 60 .. once the day d has begun there
+-- the day at a place on which the sun reaches the first of the longitudes r, r + 30, r + 60 .. once the day d has begun
+-- there
 unfoldable pub term_day_of : Place → (r d : ℤ) → Program ℤ
 term_day_of place r d = bind (spans_short_of place r d) λ n. longitude_day_of place (term_longitude r n) d

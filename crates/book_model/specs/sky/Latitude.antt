@@ -2,7 +2,9 @@
 -- Reingold and Dershowitz, Calendrical Calculations, chapter 14; Meeus, Astronomical Algorithms, chapter 47.
 use Rattle.std.specs.Prelude.{pos}
 use Rattle.exact_math.specs.Fraction.{whole}
-use Rattle.book_model.specs.declared.moon_tables.TheConstants.{FLATTENING_ALONE, FLATTENING_LESS_ANOMALY, FLATTENING_WITH_ANOMALY, LATITUDE_TERMS, LATITUDE_TERM, MILLIONTH, MOON_LONGITUDE, VENUS_IN_LATITUDE, VENUS_TERM}
+use Rattle.book_model.specs.declared.moon_tables.TheConstants.{FLATTENING_ALONE, FLATTENING_LESS_ANOMALY}
+use Rattle.book_model.specs.declared.moon_tables.TheConstants.{FLATTENING_WITH_ANOMALY, LATITUDE_TERMS, LATITUDE_TERM}
+use Rattle.book_model.specs.declared.moon_tables.TheConstants.{MILLIONTH, MOON_LONGITUDE, VENUS_IN_LATITUDE, VENUS_TERM}
 use Rattle.book_model.specs.declared.moon_terms.LatitudeTerm.{LatitudeTerm}
 use Rattle.book_model.specs.numbers.Expressions.{Expression, add, subtract, scale, sine}
 use Rattle.book_model.specs.numbers.Fractions.{fraction_of}
@@ -18,7 +20,13 @@ latitude_term_of a t = lunar_term_of a t.elongation t.sun_anomaly t.moon_anomaly
 
 -- what stands for a term past the last
 abbrev pub no_latitude_term : LatitudeTerm
-no_latitude_term = record { elongation = pos 0; sun_anomaly = pos 0; moon_anomaly = pos 0; latitude_argument = pos 0; latitude = pos 0 }
+no_latitude_term = record {
+  elongation = pos 0;
+  sun_anomaly = pos 0;
+  moon_anomaly = pos 0;
+  latitude_argument = pos 0;
+  latitude = pos 0;
+}
 
 -- the sum of the terms
 unfoldable pub latitude_terms_of : LunarAngles → Expression
@@ -26,7 +34,8 @@ latitude_terms_of a = terms_of (latitude_term_of a) no_latitude_term LATITUDE_TE
 
 -- what Venus adds, by the angle of its periodic term and the argument of latitude
 unfoldable pub venus_by : (venus argument : Expression) → Expression
-venus_by v f = add (scale (whole VENUS_IN_LATITUDE) (sine (add v f))) (scale (whole VENUS_IN_LATITUDE) (sine (subtract v f)))
+venus_by v f = add (scale (whole VENUS_IN_LATITUDE) (sine (add v f)))
+    (scale (whole VENUS_IN_LATITUDE) (sine (subtract v f)))
 
 -- what the flattening of the earth adds, by the mean longitude and the anomaly of the moon
 unfoldable pub flattening_by : (longitude anomaly : Expression) → Expression

@@ -2,7 +2,9 @@
 -- Reingold and Dershowitz, Calendrical Calculations, chapter 14; Meeus, Astronomical Algorithms, chapter 47.
 use Rattle.std.specs.Prelude.{ℤ, pos, unsigned_abs}
 use Rattle.exact_math.specs.Fraction.{whole}
-use Rattle.book_model.specs.declared.moon_tables.TheConstants.{ECCENTRICITY_FACTOR, ELONGATION, FLATTENING, JUPITER_TERM, LATITUDE_ARGUMENT, MILLIONTH, MOON_ANOMALY, MOON_LONGITUDE, MOON_TERMS, SUN_ANOMALY, VENUS_TERM}
+use Rattle.book_model.specs.declared.moon_tables.TheConstants.{ECCENTRICITY_FACTOR, ELONGATION, FLATTENING}
+use Rattle.book_model.specs.declared.moon_tables.TheConstants.{JUPITER_TERM, LATITUDE_ARGUMENT, MILLIONTH, MOON_ANOMALY}
+use Rattle.book_model.specs.declared.moon_tables.TheConstants.{MOON_LONGITUDE, MOON_TERMS, SUN_ANOMALY, VENUS_TERM}
 use Rattle.book_model.specs.declared.site.Site.TheVariants.{MoonWrap}
 use Rattle.book_model.specs.declared.moon_terms.MoonTerm.{MoonTerm}
 use Rattle.book_model.specs.numbers.Expressions.{Expression, add, subtract, scale, sine, remainder}
@@ -35,11 +37,14 @@ lunar_angles_of c =
 -- d D + m M + m' M' + f F
 unfoldable pub lunar_angle_of : LunarAngles → (elongation sun_anomaly moon_anomaly latitude_argument : ℤ) → Expression
 lunar_angle_of a d m n f =
-    add (add (add (scale (whole d) a.elongation) (scale (whole m) a.sun_anomaly)) (scale (whole n) a.moon_anomaly)) (scale (whole f) a.latitude_argument)
+    add (add (add (scale (whole d) a.elongation) (scale (whole m) a.sun_anomaly)) (scale (whole n) a.moon_anomaly))
+    (scale (whole f) a.latitude_argument)
 
 -- v E^|m| sin(d D + m M + m' M' + f F)
-unfoldable pub lunar_term_of : LunarAngles → (elongation sun_anomaly moon_anomaly latitude_argument size : ℤ) → Expression
-lunar_term_of a d m n f v = scale (whole v) (times_power a.eccentricity (unsigned_abs m) (sine (lunar_angle_of a d m n f)))
+unfoldable pub lunar_term_of : LunarAngles → (elongation sun_anomaly moon_anomaly latitude_argument size : ℤ)
+    → Expression
+lunar_term_of a d m n f v =
+    scale (whole v) (times_power a.eccentricity (unsigned_abs m) (sine (lunar_angle_of a d m n f)))
 
 -- a term of the longitude
 unfoldable pub longitude_term_of : LunarAngles → MoonTerm → Expression
@@ -47,7 +52,14 @@ longitude_term_of a t = lunar_term_of a t.elongation t.sun_anomaly t.moon_anomal
 
 -- what stands for a term past the last
 abbrev pub no_term : MoonTerm
-no_term = record { elongation = pos 0; sun_anomaly = pos 0; moon_anomaly = pos 0; latitude_argument = pos 0; longitude = pos 0; distance = pos 0 }
+no_term = record {
+  elongation = pos 0;
+  sun_anomaly = pos 0;
+  moon_anomaly = pos 0;
+  latitude_argument = pos 0;
+  longitude = pos 0;
+  distance = pos 0;
+}
 
 -- the sum of the longitude's terms
 unfoldable pub longitude_terms_of : Expression → Expression
@@ -55,15 +67,18 @@ longitude_terms_of c = terms_of (longitude_term_of (lunar_angles_of c)) no_term 
 
 -- what the flattening of the earth adds: by the longitude less the argument of latitude
 unfoldable pub flattening_of : Expression → Expression
-flattening_of c = scale (fraction_of FLATTENING) (sine (subtract (quartic_of MOON_LONGITUDE c) (quartic_of LATITUDE_ARGUMENT c)))
+flattening_of c = scale (fraction_of FLATTENING)
+    (sine (subtract (quartic_of MOON_LONGITUDE c) (quartic_of LATITUDE_ARGUMENT c)))
 
 -- what the moon is ahead of its mean longitude, in millionths of a degree
 unfoldable pub inequalities_of : Expression → Expression
-inequalities_of c = add (add (add (longitude_terms_of c) (periodic_term_of c VENUS_TERM)) (periodic_term_of c JUPITER_TERM)) (flattening_of c)
+inequalities_of c = add (add (add (longitude_terms_of c) (periodic_term_of c VENUS_TERM))
+    (periodic_term_of c JUPITER_TERM)) (flattening_of c)
 
 -- the moon's longitude, not reduced
 unfoldable pub moon_longitude_of : Expression → Expression
-moon_longitude_of c = add (add (quartic_of MOON_LONGITUDE c) (scale (fraction_of MILLIONTH) (inequalities_of c))) (nutation_of c)
+moon_longitude_of c = add (add (quartic_of MOON_LONGITUDE c) (scale (fraction_of MILLIONTH) (inequalities_of c)))
+    (nutation_of c)
 
 -- the moon's longitude at a moment of universal time
 unfoldable pub moon_of : Expression → Program Expression

@@ -1,14 +1,15 @@
--- Moonrise and moonset at a location: when the moon's upper edge is seen to come above the level of the horizon, and to go below it.
--- The air lifts the moon there, the height of the location lowers the horizon, and the moon stands lower for an observer on the ground
--- than for one at the centre of the earth. Angles are in degrees, moments in days (R.D.). Altitude and parallax: Reingold and
--- Dershowitz, Calendrical Calculations, chapter 14.
+-- Moonrise and moonset at a location: when the moon's upper edge is seen to come above the level of the horizon, and to
+-- go below it. The air lifts the moon there, the height of the location lowers the horizon, and the moon stands lower
+-- for an observer on the ground than for one at the centre of the earth. Angles are in degrees, moments in days (R.D.).
+-- Altitude and parallax: Reingold and Dershowitz, Calendrical Calculations, chapter 14.
 use Rattle.std.specs.Prelude.{ℕ, ℤ, pos, Bool}
 use Rattle.exact_math.specs.Fraction.{Fraction}
 use Rattle.book_model.specs.declared.fact.Place.{Place}
 use Rattle.book_model.specs.declared.horizon.Location.{Location}
 use Rattle.book_model.specs.declared.location_tables.TheConstants.{EQUATOR_RADIUS}
 use Rattle.book_model.specs.declared.site.Site.TheVariants.{Rise}
-use Rattle.book_model.specs.numbers.Expressions.{Expression, integer, constant, add, subtract, divide, scale, cosine, arcsine}
+use Rattle.book_model.specs.numbers.Expressions.{Expression, integer, constant, add, subtract, divide, scale, cosine}
+use Rattle.book_model.specs.numbers.Expressions.{arcsine}
 use Rattle.book_model.specs.numbers.Fractions.{fraction_of}
 use Rattle.book_model.specs.programs.Crossings.{crossing_of, opposite_of}
 use Rattle.book_model.specs.programs.Programs.{Program, answer, compare, bind}
@@ -25,11 +26,13 @@ use Rattle.book_model.specs.sky.Time.{midnight_of, sidereal_of}
 abbrev pub equator_radius : Fraction
 equator_radius = fraction_of EQUATOR_RADIUS
 
--- the parallax at an altitude, by the distance in kilometres: by how much lower the moon stands for an observer on the ground
+-- the parallax at an altitude, by the distance in kilometres: by how much lower the moon stands for an observer on the
+-- ground
 unfoldable pub parallax_of : (altitude distance : Expression) → Expression
 parallax_of a d = arcsine (divide (scale equator_radius (cosine a)) d)
 
--- the altitude, less the parallax, and as much more as the sun's middle stands below the level when its upper edge is seen to set
+-- the altitude, less the parallax, and as much more as the sun's middle stands below the level when its upper edge is
+-- seen to set
 unfoldable pub lifted_of : (altitude distance depression : Expression) → Expression
 lifted_of a d p = add (subtract a (parallax_of a d)) p
 
@@ -41,7 +44,8 @@ height_of s d p = lifted_of (arcsine s) d p
 unfoldable pub sky_sine_of : Location → (sidereal obliquity longitude latitude : Expression) → Expression
 sky_sine_of p t o l b = altitude_sine_of (fraction_of p.latitude) (add t (constant (fraction_of p.longitude))) o l b
 
--- the observed altitude at a moment of universal time, by the sidereal time at Greenwich and the obliquity of the ecliptic
+-- the observed altitude at a moment of universal time, by the sidereal time at Greenwich and the obliquity of the
+-- ecliptic
 unfoldable pub observed_with_of : Location → (x sidereal obliquity : Expression) → Program Expression
 observed_with_of p x t o =
     bind (moon_of x) λ l.

@@ -1,6 +1,7 @@
--- The numbers, the printed names and the first versions of sites, kinds of facts and places, the places of a kind, and the location
--- and the zone of a place, by their tables.
-use Rattle.std.specs.Prelude.{ℕ, ◌+◌, ◌==◌, ◌||◌, nat_eq, Bool, true, false, List, [], ◌∷◌, Option, Some, None, if◌then◌else◌, map, slice_get}
+-- The numbers, the printed names and the first versions of sites, kinds of facts and places, the places of a kind, and
+-- the location and the zone of a place, by their tables.
+use Rattle.std.specs.Prelude.{ℕ, ◌+◌, ◌==◌, ◌||◌, nat_eq, Bool, true, false, List, [], ◌∷◌, Option, Some, None}
+use Rattle.std.specs.Prelude.{if◌then◌else◌, map, slice_get}
 use Rattle.std.specs.List.{list_any}
 use Rattle.std.specs.Option.{option_map_or}
 use lib.Pointwise.{pointwise}
@@ -72,7 +73,8 @@ place_since place = option_map_or (λ row. row.2.3) (slice_get PLACES (place_num
 unfoldable pub location_of : Place → Option Location
 location_of place = option_map_or (λ row. row.2.0) (slice_get PLACES (place_number place)) None
 
--- the days on which the time of a place changes, in order, with the hours by which it is ahead of universal time before each
+-- the days on which the time of a place changes, in order, with the hours by which it is ahead of universal time before
+-- each
 unfoldable pub zone_steps : Place → List ZoneStep
 zone_steps place = option_map_or (λ row. row.2.1.now) (slice_get PLACES (place_number place)) []
 

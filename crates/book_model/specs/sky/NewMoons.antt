@@ -3,7 +3,11 @@
 use Rattle.std.specs.Prelude.{ℤ, pos, ◌+ℤ◌, ◌-ℤ◌, ◌*ℤ◌}
 use Rattle.exact_math.specs.Fraction.{Fraction, whole}
 use Rattle.book_model.specs.declared.moon_tables.TheConstants.{ECCENTRICITY_FACTOR}
-use Rattle.book_model.specs.declared.new_moon_tables.TheConstants.{MEAN_NEW_MOON, NEW_MOON_ANOMALY, NEW_MOON_LATITUDE_ARGUMENT, NEW_MOON_NODE, NEW_MOON_OF_2000, NEW_MOON_SUN_ANOMALY, NEW_MOON_TERMS, NEW_MOON_TERM, NODE_TERM, PLANET_TERMS}
+use Rattle.book_model.specs.declared.new_moon_tables.TheConstants.{MEAN_NEW_MOON, NEW_MOON_ANOMALY}
+use Rattle.book_model.specs.declared.new_moon_tables.TheConstants.{NEW_MOON_LATITUDE_ARGUMENT, NEW_MOON_NODE}
+use Rattle.book_model.specs.declared.new_moon_tables.TheConstants.{NEW_MOON_OF_2000, NEW_MOON_SUN_ANOMALY}
+use Rattle.book_model.specs.declared.new_moon_tables.TheConstants.{NEW_MOON_TERMS, NEW_MOON_TERM, NODE_TERM}
+use Rattle.book_model.specs.declared.new_moon_tables.TheConstants.{PLANET_TERMS}
 use Rattle.book_model.specs.declared.moon_terms.NewMoonTerm.{NewMoonTerm}
 use Rattle.book_model.specs.declared.moon_terms.PlanetTerm.{PlanetTerm}
 use Rattle.book_model.specs.declared.time_tables.TheConstants.{NOON_2000}
@@ -38,7 +42,8 @@ new_moon_angles_of c =
 -- x M + y M' + z F
 unfoldable pub angle_of_new_moon_term : NewMoonAngles → NewMoonTerm → Expression
 angle_of_new_moon_term a t =
-    add (add (scale (whole t.sun_anomaly) a.sun_anomaly) (scale (whole t.moon_anomaly) a.moon_anomaly)) (scale (whole t.latitude_argument) a.latitude_argument)
+    add (add (scale (whole t.sun_anomaly) a.sun_anomaly) (scale (whole t.moon_anomaly) a.moon_anomaly))
+    (scale (whole t.latitude_argument) a.latitude_argument)
 
 -- a number that counts hundred-thousandths, and one that counts millionths
 abbrev pub hundred_thousandths : ℤ → Fraction
@@ -49,11 +54,18 @@ millionths n = record { num = n; below = 999999 }
 
 -- v E^w sin(x M + y M' + z F)
 unfoldable pub new_moon_term_of : NewMoonAngles → NewMoonTerm → Expression
-new_moon_term_of a t = scale (hundred_thousandths t.size) (times_power a.eccentricity t.eccentricity (sine (angle_of_new_moon_term a t)))
+new_moon_term_of a t = scale (hundred_thousandths t.size)
+    (times_power a.eccentricity t.eccentricity (sine (angle_of_new_moon_term a t)))
 
 -- what stands for a term past the last
 abbrev pub no_new_moon_term : NewMoonTerm
-no_new_moon_term = record { eccentricity = 0; sun_anomaly = pos 0; moon_anomaly = pos 0; latitude_argument = pos 0; size = pos 0 }
+no_new_moon_term = record {
+  eccentricity = 0;
+  sun_anomaly = pos 0;
+  moon_anomaly = pos 0;
+  latitude_argument = pos 0;
+  size = pos 0;
+}
 
 -- the sum of the terms
 unfoldable pub new_moon_terms_of : Fraction → Expression
@@ -89,7 +101,8 @@ node_term_of c = scale (fraction_of NODE_TERM) (sine (polynomial_at NEW_MOON_NOD
 -- the new moon of the number k, counted from that of January 2000, in dynamical time
 unfoldable pub dynamical_new_moon_of : ℤ → Expression
 dynamical_new_moon_of k =
-    add (add (add (add (mean_new_moon_of (centuries_of_months k)) (node_term_of (centuries_of_months k))) (new_moon_terms_of (centuries_of_months k)))
+    add (add (add (add (mean_new_moon_of (centuries_of_months k)) (node_term_of (centuries_of_months k)))
+    (new_moon_terms_of (centuries_of_months k)))
     (venus_term_of (centuries_of_months k))) (planet_terms_of k)
 
 -- the new moon of a number, in universal time

@@ -1,6 +1,6 @@
--- The first day of Nisan by observation: of the month about the spring equinox, by when the sun sets on the day of the equinox and
--- by the first visibility of the crescent. Moments are in days (R.D.) of universal time. Reingold and Dershowitz, Calendrical
--- Calculations, chapter 18.
+-- The first day of Nisan by observation: of the month about the spring equinox, by when the sun sets on the day of the
+-- equinox and by the first visibility of the crescent. Moments are in days (R.D.) of universal time. Reingold and
+-- Dershowitz, Calendrical Calculations, chapter 18.
 use Rattle.std.specs.Prelude.{Bool, if◌then◌else◌, ℤ, pos, ◌+ℤ◌, ◌-ℤ◌, int_le}
 use Rattle.book_model.specs.declared.horizon.Location.{Location}
 use Rattle.book_model.specs.declared.site.Site.TheVariants.{DayFloor, DayTest}
@@ -13,13 +13,16 @@ use Rattle.book_model.specs.programs.Searches.{first_day_from}
 use Rattle.book_model.specs.sky.Sun.{sun_from_of}
 
 -- ---- the first visibility from a day on
--- the day from which it is sought: 29 days after the last new moon where the crescent of that is past the day s, else the day
+-- the day from which it is sought: 29 days after the last new moon where the crescent of that is past the day s, else
+-- the day
 unfoldable pub sought_from : (s m : ℤ) → Bool → ℤ
 sought_from s m seen = if seen then m +ℤ pos 29 else s
 
--- the crescent of the last new moon is past after four days, or where it is seen on the evening with which the day before s begins
+-- the crescent of the last new moon is past after four days, or where it is seen on the evening with which the day
+-- before s begins
 unfoldable pub sought_start_of : Location → (s m : ℤ) → Program ℤ
-sought_start_of p s m = if int_le (pos 4) (s -ℤ m) then answer (m +ℤ pos 29) else (bind (visible_of p (s -ℤ pos 1)) λ seen. answer (sought_from s m seen))
+sought_start_of p s m = if int_le (pos 4) (s -ℤ m) then answer (m +ℤ pos 29)
+    else (bind (visible_of p (s -ℤ pos 1)) λ seen. answer (sought_from s m seen))
 
 -- the first day on whose evening before the crescent is seen, from where the day of the last new moon tells
 unfoldable pub visibility_by_of : Location → (s m : ℤ) → Program ℤ

@@ -1,11 +1,14 @@
--- The equation of time, apparent time, true noon at Tehran and apparent midnight at Paris. Angles are in degrees, moments and
--- durations in days; c is in centuries. Reingold and Dershowitz, Calendrical Calculations, chapter 14; the place of noon is that of
--- chapter 15, the place of midnight that of chapter 17.
+-- The equation of time, apparent time, true noon at Tehran and apparent midnight at Paris. Angles are in degrees,
+-- moments and durations in days; c is in centuries. Reingold and Dershowitz, Calendrical Calculations, chapter 14; the
+-- place of noon is that of chapter 15, the place of midnight that of chapter 17.
 use Rattle.std.specs.Prelude.{◌≡◌, ℤ, pos, ◌+ℤ◌, ◌-ℤ◌, ◌≤ℤ◌, Some}
 use Rattle.exact_math.specs.Fraction.{Fraction}
-use Rattle.book_model.specs.declared.sun_tables.TheConstants.{DEGREE_IN_DAYS, ECCENTRICITY, FIVE_QUARTERS, FOUR, MEAN_SUN, MINUS_HALF, OBLIQUITY, PARIS_LONGITUDE, PERSIAN_NOON_LONGITUDE, SOLAR_ANOMALY, TWO}
+use Rattle.book_model.specs.declared.sun_tables.TheConstants.{DEGREE_IN_DAYS, ECCENTRICITY, FIVE_QUARTERS, FOUR}
+use Rattle.book_model.specs.declared.sun_tables.TheConstants.{MEAN_SUN, MINUS_HALF, OBLIQUITY, PARIS_LONGITUDE}
+use Rattle.book_model.specs.declared.sun_tables.TheConstants.{PERSIAN_NOON_LONGITUDE, SOLAR_ANOMALY, TWO}
 use Rattle.book_model.specs.declared.tables.TheConstants.{HALF}
-use Rattle.book_model.specs.numbers.Expressions.{Expression, World, value, integer, constant, add, subtract, multiply, divide, scale, power, minimum, maximum, pi, sine, cosine, tangent}
+use Rattle.book_model.specs.numbers.Expressions.{Expression, World, value, integer, constant, add, subtract, multiply}
+use Rattle.book_model.specs.numbers.Expressions.{divide, scale, power, minimum, maximum, pi, sine, cosine, tangent}
 use Rattle.book_model.specs.numbers.Fractions.{fraction_of}
 use Rattle.book_model.specs.numbers.Polynomials.{quadratic_of, cubic_of}
 use Rattle.book_model.specs.programs.Programs.{Program, answer, bind, integers, cell_at, run, outcome, valued}
@@ -26,7 +29,8 @@ centre_of e m = scale (fraction_of TWO) (multiply e (sine m))
 
 -- 4 e y sin M cos 2L: what both together bring about
 unfoldable pub joint_of : (y e l m : Expression) → Expression
-joint_of y e l m = scale (fraction_of FOUR) (multiply (multiply (multiply e y) (sine m)) (cosine (scale (fraction_of TWO) l)))
+joint_of y e l m = scale (fraction_of FOUR)
+    (multiply (multiply (multiply e y) (sine m)) (cosine (scale (fraction_of TWO) l)))
 
 -- (y^2 / 2) sin 4L
 unfoldable pub second_reduction_of : (y l : Expression) → Expression
@@ -39,15 +43,18 @@ second_centre_of e m = scale (fraction_of FIVE_QUARTERS) (multiply (power e 2) (
 -- the equation of time in radians
 unfoldable pub radians_of : (y e l m : Expression) → Expression
 radians_of y e l m =
-    subtract (subtract (add (subtract (reduction_of y l) (centre_of e m)) (joint_of y e l m)) (second_reduction_of y l)) (second_centre_of e m)
+    subtract (subtract (add (subtract (reduction_of y l) (centre_of e m)) (joint_of y e l m)) (second_reduction_of y l))
+    (second_centre_of e m)
 
 -- radians as a part of a day, which has 2 pi of them, and at most half a day
 unfoldable pub part_of_day : Expression → Expression
-part_of_day x = maximum (constant (fraction_of MINUS_HALF)) (minimum (constant (fraction_of HALF)) (divide x (scale (fraction_of TWO) pi)))
+part_of_day x = maximum (constant (fraction_of MINUS_HALF))
+    (minimum (constant (fraction_of HALF)) (divide x (scale (fraction_of TWO) pi)))
 
 -- the equation of time by the centuries: what apparent time is ahead of mean time
 unfoldable pub equation_of : Expression → Expression
-equation_of c = part_of_day (radians_of (tilt_of c) (quadratic_of ECCENTRICITY c) (quadratic_of MEAN_SUN c) (cubic_of SOLAR_ANOMALY c))
+equation_of c = part_of_day (radians_of (tilt_of c) (quadratic_of ECCENTRICITY c) (quadratic_of MEAN_SUN c)
+    (cubic_of SOLAR_ANOMALY c))
 
 -- the equation of time at a moment of universal time
 unfoldable pub equation_of_time_of : Expression → Program Expression
@@ -80,5 +87,6 @@ pub record IsStart (d q : ℤ) : Type 0 where
 
 -- the floor of what is estimated from the noon of a day lies near the day, where it is decided
 pub record StartsNear : Type 0 where
-  pub start : (w : World) (d q : ℤ) (l n s : Expression) → outcome (run w (noon_of d)) ≡ valued n → outcome (run w (estimate_of l n)) ≡ valued s
+  pub start : (w : World) (d q : ℤ) (l n s : Expression) → outcome (run w (noon_of d)) ≡ valued n
+      → outcome (run w (estimate_of l n)) ≡ valued s
       → cell_at integers (value w s) ≡ Some q → IsStart d q

@@ -1,5 +1,6 @@
--- The formulas of facts as an earlier version of certificates had them: over its rows of ΔT, and of its days. The table of
--- values of ΔT is no argument of the formulas: a formula over some rows alone is the formula in which the other years are void.
+-- The formulas of facts as an earlier version of certificates had them: over its rows of ΔT, and of its days. The table
+-- of values of ΔT is no argument of the formulas: a formula over some rows alone is the formula in which the other
+-- years are void.
 use Rattle.std.specs.Prelude.{◌≡◌, ℕ, ℤ, Bool, true, false, not, ◌&&◌, if◌then◌else◌, List}
 use Rattle.std.specs.List.{filter, list_any}
 use Rattle.book_model.specs.declared.fact.Fact.{Fact}
@@ -9,7 +10,8 @@ use Rattle.book_model.specs.declared.version.Version.{Version}
 use Rattle.book_model.specs.calendars.Versions.{is_value_day, has_since}
 use Rattle.book_model.specs.numbers.Expressions.{Expression, integer, scale}
 use Rattle.book_model.specs.numbers.Fractions.{fraction_of}
-use Rattle.book_model.specs.programs.Programs.{Grid, integers, multiples, years, Program, answer, void, cell, compare, bind, Run, run}
+use Rattle.book_model.specs.programs.Programs.{Grid, integers, multiples, years, Program, answer, void, cell, compare}
+use Rattle.book_model.specs.programs.Programs.{bind, Run, run}
 use Rattle.book_model.specs.sky.Correction.{is_between, Correction, corrections, row_in, year_of, rounded_of}
 use Rattle.book_model.specs.sky.Facts.{formula_of, at_depth}
 use Rattle.book_model.specs.sky.Time.{by_row}
@@ -20,11 +22,13 @@ are_years integers = false
 are_years (multiples m) = false
 are_years years = true
 
--- a formula over some years alone: where a moment's year isn't known it has no value, as where the table has no row of it
+-- a formula over some years alone: where a moment's year isn't known it has no value, as where the table has no row of
+-- it
 unfoldable pub over_years : {A : Type 0} → (ℤ → Bool) → Program A → Program A
 over_years known (answer a) = answer a
 over_years known (void s) = void s
-over_years known (cell s g x next) = cell s g x (λ q. if are_years g && not (known q) then void Year else over_years known (next q))
+over_years known (cell s g x next) = cell s g x (λ q. if are_years g && not (known q) then void Year
+    else over_years known (next q))
 over_years known (compare s x y next) = compare s x y (λ t. over_years known (next t))
 
 -- the rows of ΔT that a version had
@@ -41,7 +45,8 @@ has_correction version y = have_year (rows_in version) y
 
 -- the formula of a fact as a version had it
 unfoldable pub program_by : Version → Fact → Program ℤ
-program_by version f = if is_value_day version f.day then over_years (has_correction version) (formula_of f.kind f.place f.day) else void Year
+program_by version f = if is_value_day version f.day then over_years (has_correction version)
+    (formula_of f.kind f.place f.day) else void Year
 
 -- the run of a fact at a depth as a version had it
 unfoldable pub run_by : Version → ℕ → Fact → Run ℤ
@@ -50,7 +55,8 @@ run_by version n f = run (at_depth n) (program_by version f)
 -- ---- what a formula over some years is
 -- a formula and what follows from its answer are each over these years
 abbrev pub IsComposed : (ℤ → Bool) → (A B : Type 0) → Type 0
-IsComposed known A B = (p : Program A) (f : A → Program B) → over_years known (bind p f) ≡ bind (over_years known p) (λ a. over_years known (f a))
+IsComposed known A B = (p : Program A) (f : A → Program B) → over_years known (bind p f) ≡ bind (over_years known p)
+    (λ a. over_years known (f a))
 
 -- the same whatever is answered behind the formula: formulas answer tests, numbers and expressions
 pub record AreComposed (known : ℤ → Bool) (A : Type 0) : Type 0 where

@@ -1,11 +1,13 @@
--- The moon's phase, which is its longitude less the sun's, the new moons before and from a moment, and when the moon was last
--- at a phase. Angles are in
+-- The moon's phase, which is its longitude less the sun's, the new moons before and from a moment, and when the moon
+-- was last at a phase. Angles are in
 -- degrees, moments in days (R.D.) of universal time. Reingold and Dershowitz, Calendrical Calculations, chapter 14.
 use Rattle.std.specs.Prelude.{ℕ, zero, suc, Bool, if◌then◌else◌, ℤ, pos, ◌+ℤ◌, ◌-ℤ◌}
-use Rattle.book_model.specs.declared.new_moon_tables.TheConstants.{DAY_IN_MONTHS, DEGREE_IN_MONTHS, DEGREE_OF_MONTH, TURN}
+use Rattle.book_model.specs.declared.new_moon_tables.TheConstants.{DAY_IN_MONTHS, DEGREE_IN_MONTHS, DEGREE_OF_MONTH}
+use Rattle.book_model.specs.declared.new_moon_tables.TheConstants.{TURN}
 use Rattle.book_model.specs.declared.site.Site.TheVariants.{DayFloor, PhaseWrap, PhasePick, MoonNumber, MoonWalk}
 use Rattle.book_model.specs.declared.tables.TheConstants.{HALF}
-use Rattle.book_model.specs.numbers.Expressions.{Expression, integer, constant, add, subtract, negate, scale, minimum, maximum, remainder}
+use Rattle.book_model.specs.numbers.Expressions.{Expression, integer, constant, add, subtract, negate, scale, minimum}
+use Rattle.book_model.specs.numbers.Expressions.{maximum, remainder}
 use Rattle.book_model.specs.programs.Bisection.{invert_of}
 use Rattle.book_model.specs.numbers.Fractions.{fraction_of}
 use Rattle.book_model.specs.sky.Moon.{moon_of}
@@ -61,7 +63,8 @@ phase_of_choice apart p q = if apart then q else p
 
 -- the phase by longitudes, or the one by the time where the two are more than 180 degrees apart
 unfoldable pub test_which_phase_of : Expression → Expression → Program Expression
-test_which_phase_of p q = bind (compare PhasePick (integer (pos 180)) (size_of (subtract p q)) answer) λ apart. answer (phase_of_choice apart p q)
+test_which_phase_of p q = bind (compare PhasePick (integer (pos 180)) (size_of (subtract p q)) answer) λ apart. answer
+    (phase_of_choice apart p q)
 
 -- the phase by longitudes p, or in its place the one by the time since the new moon about the moment
 unfoldable pub corrected_of : (x p : Expression) → Program Expression

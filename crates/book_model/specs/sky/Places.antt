@@ -19,8 +19,8 @@ keeps b x = implies (bound_of (limits_at 56) (λ k. unbounded) x) b
 abbrev pub is_up_to : ℕ → Frac → Bool
 is_up_to m f = is_at_most (whole (pos 0)) (fraction_of f) && is_at_most (fraction_of f) (whole (pos m))
 
--- a location: what its local time is ahead is narrow, its latitude lies from 0 to 36 degrees, its refraction is at most 4 degrees,
--- and it lies east of Greenwich
+-- a location: what its local time is ahead is narrow, its latitude lies from 0 to 36 degrees, its refraction is at most
+-- 4 degrees, and it lies east of Greenwich
 abbrev pub is_kept_location : Location → Bool
 is_kept_location l =
     keeps (bounded (neg_ℤ (pos (2 ^ 32))) (pos (2 ^ 32)) 0 (2 ^ 10)) (ahead_of (fraction_of l.longitude))
@@ -33,7 +33,8 @@ are_kept_hours m h = keeps (bounded (pos 0) (pos (m * 2 ^ 32)) 0 (2 ^ 8)) (const
 
 -- a step of a zone
 abbrev pub is_kept_step : ℕ → ZoneStep → Bool
-is_kept_step m s = are_kept_hours m s.hours && keeps (bounded (neg_ℤ (pos (2 ^ 90))) (pos (2 ^ 90)) 0 0) (integer s.before)
+is_kept_step m s = are_kept_hours m s.hours && keeps (bounded (neg_ℤ (pos (2 ^ 90))) (pos (2 ^ 90)) 0 0)
+    (integer s.before)
 
 -- a zone: its time is ahead by at most so many hours
 abbrev pub is_kept_zone : ℕ → List ZoneStep → Frac → Bool

@@ -19,7 +19,8 @@ seconds_11 n = record { num = n; below = 86400 * 10 ^ 11 - 1 }
 -- the sum of the first n terms of a polynomial, as one fraction
 unfoldable pub exact_to : List Frac → ℤ → ℕ → Fraction
 exact_to cs x zero = whole (pos 0)
-exact_to cs x (suc n) = plus (exact_to cs x n) (times (whole (int_power x n)) (fraction_of (slice_index_or cs n no_fraction)))
+exact_to cs x (suc n) = plus (exact_to cs x n)
+    (times (whole (int_power x n)) (fraction_of (slice_index_or cs n no_fraction)))
 
 -- an interval is one number
 abbrev pub IsNumber : Fraction → Interval → Type 0

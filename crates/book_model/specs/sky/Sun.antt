@@ -1,13 +1,16 @@
--- The apparent longitude of the sun, the obliquity of the ecliptic, about when the sun was last at a longitude, and when it is next
--- at one.
+-- The apparent longitude of the sun, the obliquity of the ecliptic, about when the sun was last at a longitude, and
+-- when it is next at one.
 -- Angles are in degrees, moments and durations in days; c is in centuries.
 -- Reingold and Dershowitz, Calendrical Calculations, chapter 14.
 use Rattle.std.specs.Prelude.{pos, ◌-◌, ◌^◌}
 use Rattle.exact_math.specs.Fraction.{Fraction}
 use Rattle.book_model.specs.declared.site.Site.TheVariants.{StepWrap, SunWrap}
-use Rattle.book_model.specs.declared.sun_tables.TheConstants.{ABERRATION, DEGREE_OF_YEAR, MEAN_ABERRATION, NODE_NUTATION, OBLIQUITY, SOLAR_NUTATION, SUN_AT_2000, SUN_RATE, SUN_TERMS}
+use Rattle.book_model.specs.declared.sun_tables.TheConstants.{ABERRATION, DEGREE_OF_YEAR, MEAN_ABERRATION}
+use Rattle.book_model.specs.declared.sun_tables.TheConstants.{NODE_NUTATION, OBLIQUITY, SOLAR_NUTATION, SUN_AT_2000}
+use Rattle.book_model.specs.declared.sun_tables.TheConstants.{SUN_RATE, SUN_TERMS}
 use Rattle.book_model.specs.programs.Bisection.{invert_of}
-use Rattle.book_model.specs.numbers.Expressions.{Expression, integer, constant, add, subtract, scale, minimum, maximum, cosine, remainder}
+use Rattle.book_model.specs.numbers.Expressions.{Expression, integer, constant, add, subtract, scale, minimum, maximum}
+use Rattle.book_model.specs.numbers.Expressions.{cosine, remainder}
 use Rattle.book_model.specs.numbers.Fractions.{fraction_of, ten_millionths}
 use Rattle.book_model.specs.numbers.Polynomials.{cubic_of, angle_of_term, quadratic_term_of, periodic_terms_of}
 use Rattle.book_model.specs.programs.Programs.{Program, answer, cell, bind, multiples}
@@ -19,7 +22,8 @@ nutation_of c = add (quadratic_term_of NODE_NUTATION c) (quadratic_term_of SOLAR
 
 -- the aberration
 unfoldable pub aberration_of : Expression → Expression
-aberration_of c = subtract (scale (ten_millionths ABERRATION.size) (cosine (angle_of_term ABERRATION c))) (constant (fraction_of MEAN_ABERRATION))
+aberration_of c = subtract (scale (ten_millionths ABERRATION.size) (cosine (angle_of_term ABERRATION c)))
+    (constant (fraction_of MEAN_ABERRATION))
 
 -- the unit of the sun's periodic terms, 0.000005729577951308232
 abbrev pub sun_unit : Fraction
@@ -28,7 +32,8 @@ sun_unit = record { num = pos 5729577951308232; below = 10 ^ 21 - 1 }
 -- the sun's longitude, not reduced
 unfoldable pub longitude_of : Expression → Expression
 longitude_of c =
-    add (add (add (add (constant (fraction_of SUN_AT_2000)) (scale (fraction_of SUN_RATE) c)) (scale sun_unit (periodic_terms_of SUN_TERMS c))) (aberration_of c))
+    add (add (add (add (constant (fraction_of SUN_AT_2000)) (scale (fraction_of SUN_RATE) c))
+    (scale sun_unit (periodic_terms_of SUN_TERMS c))) (aberration_of c))
     (nutation_of c)
 
 -- the sun's longitude at a moment of universal time

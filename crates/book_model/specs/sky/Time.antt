@@ -4,7 +4,8 @@ use Rattle.std.specs.Prelude.{if◌then◌else◌, int_lt, ℤ, pos, ◌-ℤ◌,
 use Rattle.exact_math.specs.Fraction.{Fraction}
 use Rattle.book_model.specs.declared.site.Site.TheVariants.{Year, Zone}
 use Rattle.book_model.specs.declared.correction_rows.CorrectionForm.{CorrectionForm}
-use Rattle.book_model.specs.declared.correction_rows.CorrectionForm.TheVariants.{SecondsSince, SecondsByHundreds, DaysByCenturies}
+use Rattle.book_model.specs.declared.correction_rows.CorrectionForm.TheVariants.{SecondsSince, SecondsByHundreds}
+use Rattle.book_model.specs.declared.correction_rows.CorrectionForm.TheVariants.{DaysByCenturies}
 use Rattle.book_model.specs.declared.fact.Place.{Place}
 use Rattle.book_model.specs.declared.frac.Frac.{Frac}
 use Rattle.book_model.specs.declared.tables.TheConstants.{SECOND}
@@ -65,8 +66,8 @@ centuries_of x = bind (dynamical_of x) λ d. answer (in_centuries d)
 unfoldable pub sidereal_of : Expression → Program Expression
 sidereal_of x = answer (cubic_of SIDEREAL_TIME (in_centuries x))
 
--- the hours by which the time of a zone is ahead of universal time at a moment: the days on which it changes are tried in order
--- until the moment is before one
+-- the hours by which the time of a zone is ahead of universal time at a moment: the days on which it changes are tried
+-- in order until the moment is before one
 unfoldable pub hours_at_of : List ZoneStep → Frac → Expression → Program Expression
 hours_at_of [] last x = answer (constant (fraction_of last))
 hours_at_of (step ∷ steps) last x =

@@ -4,4 +4,5 @@ use Rattle.almanac_core.proofs.almanac.almanac_requests.Given as goal
 
 -- the requests so far, and those that are left
 abbrev pub invariant-loop-passed : goal.invariant-loop-passed
-invariant-loop-passed l = l.requests.items ++ lines_from (almanac_line_of l.year) (l.passed + 1) (104 - l.passed) ≡ almanac_requests l.year
+invariant-loop-passed l = l.requests.items ++ lines_from (almanac_line_of l.year) (l.passed + 1) (104 - l.passed)
+    ≡ almanac_requests l.year

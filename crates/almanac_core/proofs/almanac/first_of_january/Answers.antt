@@ -8,4 +8,9 @@ returns c =
     let fr : SFits w64 c.january.result = search rules in
     let n = january_from c.args.year c.requires.year.0 in
     let m = january_to c.args.year c.requires.year.1 in
-    simp to_z-of_z (record { day = c.january.ensures.day; near_from = rw c.january.ensures.day n; near_to = rw c.january.ensures.day m })
+    simp to_z-of_z
+    (record {
+      day = c.january.ensures.day;
+      near_from = rw c.january.ensures.day n;
+      near_to = rw c.january.ensures.day m;
+    })

@@ -9,5 +9,6 @@ returns-clause-leads g c = λ w v y h k. c.wrap_step.ensures.leads w _ (c.sub.en
 
 pub returns-clause-measured : goal.returns-clause-measured
 returns-clause-measured g c = λ v u e b h k.
-    let d = apart_within g.E.Enclosure.shown _ v u c.args.angle c.args.target c.sub.result e h k (λ r p q. c.sub.ensures.encloses.narrow r p q) in
+    let d = apart_within g.E.Enclosure.shown _ v u c.args.angle c.args.target c.sub.result e h k
+    (λ r p q. c.sub.ensures.encloses.narrow r p q) in
     c.wrap_step.ensures.measured (v + u) e b d

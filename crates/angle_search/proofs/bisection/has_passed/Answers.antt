@@ -13,4 +13,5 @@ returns-clause-leads g c = λ w v y h k.
 pub returns-clause-close : goal.returns-clause-close
 returns-clause-close g c = λ v u e b h k.
     let p = turn_about (v + u) _ (c.in_ok-past.ensures.measured v u e b h k) in
-    c.less_step.ensures.close (v + u) 0 (omega (arith, b)) p (half_within g.E.Enclosure.shown _ c.from_int.result e (λ r. c.from_int.ensures.encloses.narrow r))
+    c.less_step.ensures.close (v + u) 0 (omega (arith, b)) p (half_within g.E.Enclosure.shown _ c.from_int.result e
+    (λ r. c.from_int.ensures.encloses.narrow r))

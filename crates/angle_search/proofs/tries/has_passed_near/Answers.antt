@@ -8,5 +8,6 @@ returns g c = record {
       let shown = g.E.Enclosure.shown in
       let f = g.F.Angular.angle_of in
       answer_decides shown (has_passed_at f) c.args.target c.args.x _ _ c.has_passed.result
-      (passed_decides shown f c.args.target c.args.x c.in_ok-angle.angle _ _ _ c.has_passed.result c.in_ok-angle.ensures.leads c.has_passed.ensures.leads);
+      (passed_decides shown f c.args.target c.args.x c.in_ok-angle.angle _ _ _ c.has_passed.result
+      c.in_ok-angle.ensures.leads c.has_passed.ensures.leads);
 }

@@ -12,11 +12,14 @@ returns-in-Some-arctan_over g c = record {
         λ w a h. arctangent_held g.E.Enclosure.shown w a _ _ _ c.in-Some.ensures.holds
         (λ n d. within_trans (c.in-Some-arctan_over.ensures.holds n d) c.from_span.ensures.holds) h;
     narrow = λ r a h.
-        arctangent_keeps g.E.Enclosure.shown _ r a _ _ c.in-Some.span.lo c.in-Some.span.hi c.in-Some-arctan_over.arc c.in-Some.span.ordered
-        c.in-Some.ensures.holds c.in-Some.ensures.tight c.in-Some-arctan_over.ensures.narrow c.from_span.ensures.narrow h;
+        arctangent_keeps g.E.Enclosure.shown _ r a _ _ c.in-Some.span.lo c.in-Some.span.hi c.in-Some-arctan_over.arc
+        c.in-Some.span.ordered
+        c.in-Some.ensures.holds c.in-Some.ensures.tight c.in-Some-arctan_over.ensures.narrow c.from_span.ensures.narrow
+        h;
   };
   slow =
-      arctangent_slow g.E.Enclosure.shown _ _ _ c.in-Some.span.lo c.in-Some.span.hi c.in-Some-arctan_over.arc c.in-Some.span.ordered c.in-Some.ensures.holds
+      arctangent_slow g.E.Enclosure.shown _ _ _ c.in-Some.span.lo c.in-Some.span.hi c.in-Some-arctan_over.arc
+      c.in-Some.span.ordered c.in-Some.ensures.holds
       c.in-Some.ensures.tight c.in-Some-arctan_over.ensures.narrow c.from_span.ensures.narrow;
 }
 

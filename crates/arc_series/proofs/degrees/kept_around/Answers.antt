@@ -15,7 +15,8 @@ returns-in-Some-clause-holds g c =
     let e = simp to_z-of_z at c.end_around.ensures.value in
     let f = simp to_z-of_z at c.end_around-in-Some.ensures.value in
     let h = simp to_z-of_z at c.from_span.ensures.holds in
-    moved_held g.E.Enclosure.shown c.in-Some.span.lo c.in-Some.span.hi c.end_around.result c.end_around-in-Some.result _ _ e f c.in-Some.ensures.holds h
+    moved_held g.E.Enclosure.shown c.in-Some.span.lo c.in-Some.span.hi c.end_around.result c.end_around-in-Some.result _
+    _ e f c.in-Some.ensures.holds h
 
 pub returns-in-Some-clause-inside : goal.returns-in-Some-clause-inside
 returns-in-Some-clause-inside g c =
@@ -26,7 +27,8 @@ returns-in-Some-clause-inside g c =
     let e = simp to_z-of_z at c.end_around.ensures.value in
     let f = simp to_z-of_z at c.end_around-in-Some.ensures.value in
     let h = simp to_z-of_z at c.from_span.ensures.narrow in
-    moved_inside g.E.Enclosure.shown _ c.in-Some.span.lo c.in-Some.span.hi c.end_around.result c.end_around-in-Some.result _ c.in-Some.span.ordered e f h
+    moved_inside g.E.Enclosure.shown _ c.in-Some.span.lo c.in-Some.span.hi c.end_around.result
+    c.end_around-in-Some.result _ c.in-Some.span.ordered e f h
 
 pub returns-in-None-clause-holds : goal.returns-in-None-clause-holds
 returns-in-None-clause-holds g c = λ i h k. within_trans k c.half_turn_both_ways.ensures.holds
@@ -40,8 +42,10 @@ returns-in-Some-clause-narrow g c =
     let e = simp to_z-of_z at c.end_around.ensures.value in
     let f = simp to_z-of_z at c.end_around-in-Some.ensures.value in
     let h = simp to_z-of_z at c.from_span.ensures.narrow in
-    moved_narrow g.E.Enclosure.shown _ _ _ c.in-Some.span.lo c.in-Some.span.hi c.end_around.result c.end_around-in-Some.result c.in-Some.span.ordered e f
+    moved_narrow g.E.Enclosure.shown _ _ _ c.in-Some.span.lo c.in-Some.span.hi c.end_around.result
+    c.end_around-in-Some.result c.in-Some.span.ordered e f
     c.in-Some.ensures.holds c.in-Some.ensures.tight h
 
 pub returns-in-None-clause-narrow : goal.returns-in-None-clause-narrow
-returns-in-None-clause-narrow g c = λ high v e k. nothing_slow g.E.Enclosure.shown _ _ (c.in-None.ensures.none refl) _ _ _ _ _ _ k
+returns-in-None-clause-narrow g c = λ high v e k. nothing_slow g.E.Enclosure.shown _ _ (c.in-None.ensures.none refl) _ _
+    _ _ _ _ k

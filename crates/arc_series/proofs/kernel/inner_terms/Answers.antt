@@ -1,4 +1,5 @@
-use Rattle.arc_series.proofs.Coefficients.{cut_29, cut_31, cut_33, cut_35, cut_37, cut_39, cut_41, cut_43, cut_45, cut_47, cut_49, cut_51, cut_53, cut_55}
+use Rattle.arc_series.proofs.Coefficients.{cut_29, cut_31, cut_33, cut_35, cut_37, cut_39, cut_41, cut_43, cut_45}
+use Rattle.arc_series.proofs.Coefficients.{cut_47, cut_49, cut_51, cut_53, cut_55}
 use Rattle.arc_series.proofs.Coefficients.{cut_57}
 use Rattle.arc_series.proofs.KernelSteps.{innermost, next}
 use Rattle.arc_series.proofs.kernel.inner_terms.Goals as goal

@@ -7,4 +7,5 @@ pub returns-clause-near : goal.returns-clause-near
 returns-clause-near c = λ d u v i s n.
     let p = high_is _ _ _ c.high_half.ensures.value in
     let l = high_small c.high_half.result c.args.square c.args.inner p (omega (arith, c.ranges.square.fits)) in
-    step_near c.args.coefficient c.args.square c.args.inner c.high_half.result d u v p (omega (arith, l, c.requires.falling)) c.requires.half i s n
+    step_near c.args.coefficient c.args.square c.args.inner c.high_half.result d u v p
+    (omega (arith, l, c.requires.falling)) c.requires.half i s n

@@ -1,4 +1,5 @@
-use Rattle.arc_series.proofs.Coefficients.{cut_1, cut_3, cut_5, cut_7, cut_9, cut_11, cut_13, cut_15, cut_17, cut_19, cut_21, cut_23, cut_25, cut_27}
+use Rattle.arc_series.proofs.Coefficients.{cut_1, cut_3, cut_5, cut_7, cut_9, cut_11, cut_13, cut_15, cut_17, cut_19}
+use Rattle.arc_series.proofs.Coefficients.{cut_21, cut_23, cut_25, cut_27}
 use Rattle.arc_series.proofs.KernelSteps.{next}
 use Rattle.arc_series.proofs.kernel.terms.Goals as goal
 

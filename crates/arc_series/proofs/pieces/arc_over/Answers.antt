@@ -13,8 +13,10 @@ returns-then-begin-hi c =
     let k = simp to_z-of_z at c.if-begin-hi.true in
     record {
       holds =
-          λ n d. unbegun_held of_span n c.args.piece c.args.lo c.args.hi _ (omega (arith, ints, fh)) (omega (arith, ints, k, c.begin_of-begin.ensures.value));
-      narrow = inl (unbegun c.args.piece c.args.hi (omega (arith, ints, fh)) (omega (arith, ints, k, c.begin_of-begin.ensures.value)));
+          λ n d. unbegun_held of_span n c.args.piece c.args.lo c.args.hi _ (omega (arith, ints, fh))
+          (omega (arith, ints, k, c.begin_of-begin.ensures.value));
+      narrow = inl (unbegun c.args.piece c.args.hi (omega (arith, ints, fh))
+          (omega (arith, ints, k, c.begin_of-begin.ensures.value)));
     }
 
 pub returns-then-lo-end : goal.returns-then-lo-end
@@ -23,8 +25,10 @@ returns-then-lo-end c =
     let fe : SFits w128 c.end_of-end.result = search rules in
     let k = simp to_z-of_z at c.if-lo-end.true in
     record {
-      holds = λ n d. ended_held of_span n c.args.piece c.args.lo c.args.hi _ (omega (arith, ints, fl)) (omega (arith, ints, k, c.end_of-end.ensures.value));
-      narrow = inr (ended c.args.piece c.args.lo (omega (arith, ints, fl)) (omega (arith, ints, k, c.end_of-end.ensures.value)));
+      holds = λ n d. ended_held of_span n c.args.piece c.args.lo c.args.hi _ (omega (arith, ints, fl))
+          (omega (arith, ints, k, c.end_of-end.ensures.value));
+      narrow = inr (ended c.args.piece c.args.lo (omega (arith, ints, fl))
+          (omega (arith, ints, k, c.end_of-end.ensures.value)));
     }
 
 pub arc-high-requires-clause-from : goal.arc-high-requires-clause-from
@@ -58,11 +62,21 @@ returns c =
     let q = part_to c.args.piece c.args.lo c.args.hi c.min.result y b in
     record {
       holds = λ n d.
-          over_held of_span n c.args.piece c.args.lo c.args.hi c.max.result c.min.result _ _ _ d (omega (arith, ints, fl)) (omega (arith, ints, fh)) x y f g
-          (hull_first _ _ _ _ _ _ c.hull.ensures.low c.hull.ensures.high) (hull_second _ _ _ _ _ _ c.hull.ensures.low c.hull.ensures.high);
+          over_held of_span n c.args.piece c.args.lo c.args.hi c.max.result c.min.result _ _ _ d
+          (omega (arith, ints, fl)) (omega (arith, ints, fh)) x y f g
+          (hull_first _ _ _ _ _ _ c.hull.ensures.low c.hull.ensures.high)
+          (hull_second _ _ _ _ _ _ c.hull.ensures.low c.hull.ensures.high);
       narrow =
           part_reaches c.args.piece c.args.lo c.args.hi c.max.result c.min.result _ _ _ _ _
-          (record { order = c.requires.ordered; least = omega (arith, ints, fl); most = omega (arith, ints, fh); begun = b; ended = e; begin = x; end = y })
+          (record {
+            order = c.requires.ordered;
+            least = omega (arith, ints, fl);
+            most = omega (arith, ints, fh);
+            begun = b;
+            ended = e;
+            begin = x;
+            end = y;
+          })
           (record {
             from =
                 p.0;

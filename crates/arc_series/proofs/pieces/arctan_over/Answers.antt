@@ -23,10 +23,14 @@ returns c =
           let t = simp to_z-of_z at (c.arc_over-5.ensures.holds n d) in
           let from = units_of_56 c.args.span.lo in
           let to = units_of_56 c.args.span.hi in
-          let positive = more_held of_span n from to above (far_above ∷ []) _ (c.hull_of_spans-positive.ensures.holds _ _ p q) in
-          let later = more_held of_span n from to near (above ∷ far_above ∷ []) _ (c.hull_of_spans-later.ensures.holds _ _ r positive) in
-          let most = more_held of_span n from to below (near ∷ above ∷ far_above ∷ []) _ (c.hull_of_spans-most.ensures.holds _ _ s later) in
-          more_held of_span n from to far_below (below ∷ near ∷ above ∷ far_above ∷ []) _ (c.hull_of_spans.ensures.holds _ _ t most));
+          let positive = more_held of_span n from to above (far_above ∷ []) _
+          (c.hull_of_spans-positive.ensures.holds _ _ p q) in
+          let later = more_held of_span n from to near (above ∷ far_above ∷ []) _
+          (c.hull_of_spans-later.ensures.holds _ _ r positive) in
+          let most = more_held of_span n from to below (near ∷ above ∷ far_above ∷ []) _
+          (c.hull_of_spans-most.ensures.holds _ _ s later) in
+          more_held of_span n from to far_below (below ∷ near ∷ above ∷ far_above ∷ []) _
+          (c.hull_of_spans.ensures.holds _ _ t most));
       narrow =
           let lo = c.args.span.lo in
           let hi = c.args.span.hi in
@@ -37,10 +41,14 @@ returns c =
           let s = simp to_z-of_z at c.arc_over-4.ensures.narrow in
           let t = simp to_z-of_z at c.arc_over-5.ensures.narrow in
           let positive =
-          c.hull_of_spans-positive.ensures.narrow edge_near_above edge_above no_end 80 80 lo hi o (omega (arith, ints)) (omega (arith, ints)) p q in
+          c.hull_of_spans-positive.ensures.narrow edge_near_above edge_above no_end 80 80 lo hi o (omega (arith, ints))
+          (omega (arith, ints)) p q in
           let later =
-          c.hull_of_spans-later.ensures.narrow edge_near_below edge_near_above no_end 80 200 lo hi o (omega (arith, ints)) (omega (arith, ints)) r positive in
-          let most = c.hull_of_spans-most.ensures.narrow edge_below edge_near_below no_end 80 320 lo hi o (omega (arith, ints)) (omega (arith, ints)) s later in
+          c.hull_of_spans-later.ensures.narrow edge_near_below edge_near_above no_end 80 200 lo hi o
+          (omega (arith, ints)) (omega (arith, ints)) r positive in
+          let most = c.hull_of_spans-most.ensures.narrow edge_below edge_near_below no_end 80 320 lo hi o
+          (omega (arith, ints)) (omega (arith, ints)) s later in
           all_over lo hi _ o (omega (arith, ints, fl)) (omega (arith, ints, fh))
-          (c.hull_of_spans.ensures.narrow no_begin edge_below no_end 80 440 lo hi o (omega (arith, ints)) (omega (arith, ints)) t most);
+          (c.hull_of_spans.ensures.narrow no_begin edge_below no_end 80 440 lo hi o (omega (arith, ints))
+          (omega (arith, ints)) t most);
     }

@@ -13,4 +13,5 @@ returns-in_ok-checked_sub-in-SecondsSince c =
     let p : SFits w64 c.in-SecondsSince.origin = search rules in
     let s = simp to_z-of_z at c.in_ok-checked_sub-in-SecondsSince.ensures.1 in
     let h = rw s at (simp to_z-of_z at c.exact_polynomial.ensures) in
-    some_weaker c.exact_polynomial.result _ _ (λ n g w. rw (e, c.in-SecondsSince.is) (seconds_exactly w _ c.in-SecondsSince.origin c.args.year n g)) h
+    some_weaker c.exact_polynomial.result _ _
+    (λ n g w. rw (e, c.in-SecondsSince.is) (seconds_exactly w _ c.in-SecondsSince.origin c.args.year n g)) h

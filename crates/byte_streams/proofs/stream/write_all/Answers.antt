@@ -5,6 +5,7 @@ use Rattle.byte_streams.proofs.stream.write_all.Goals as goal
 
 pub loop-rest-preserved : goal.loop-rest-preserved
 loop-rest-preserved g c = record {
-  wrote = simp take_rest (wrote_take _ _ _ _ _ c.in_ok-count.count c.loop-rest.invariant.wrote c.in_ok-count.ensures.bytes);
+  wrote = simp take_rest (wrote_take _ _ _ _ _ c.in_ok-count.count c.loop-rest.invariant.wrote
+      c.in_ok-count.ensures.bytes);
   later = omega (arith, c.in_ok-count.ensures.cause.later);
 }

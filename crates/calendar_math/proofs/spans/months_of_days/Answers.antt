@@ -7,4 +7,7 @@ pub returns : goal.returns
 returns c =
     let fn = c.ranges.days in
     let fq : SFits w64 c.spans_of.result = search rules in
-    record { months = simp to_z-of_z ((simp to_z-of_z at c.spans_of.ensures.spans) ∙ sym (months_are_spans c.args.days)) }
+    record {
+      months = simp to_z-of_z ((simp to_z-of_z at c.spans_of.ensures.spans)
+          ∙ sym (months_are_spans c.args.days));
+    }

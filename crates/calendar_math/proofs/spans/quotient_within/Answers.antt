@@ -8,7 +8,8 @@ pub overflow_cast-result : goal.overflow_cast-result
 overflow_cast-result c =
     let fn = c.ranges.number in
     let quotient = simp to_z-of_z at c.wide_quotient.ensures.quotient in
-    let near = quotient_lies c.args.number c.args.divisor 99999999999 100000000000 c.requires.positive c.requires.low c.requires.high in
+    let near = quotient_lies c.args.number c.args.divisor 99999999999 100000000000 c.requires.positive c.requires.low
+    c.requires.high in
     let from = rw (← quotient) at near.from in
     let to = rw (← quotient) at near.to in
     let fq : SFits w128 c.wide_quotient.result = omega (arith, ints, from, to) in
@@ -18,7 +19,8 @@ pub returns : goal.returns
 returns c =
     let fn = c.ranges.number in
     let quotient = simp to_z-of_z at c.wide_quotient.ensures.quotient in
-    let near = quotient_lies c.args.number c.args.divisor 99999999999 100000000000 c.requires.positive c.requires.low c.requires.high in
+    let near = quotient_lies c.args.number c.args.divisor 99999999999 100000000000 c.requires.positive c.requires.low
+    c.requires.high in
     let from = rw (← quotient) at near.from in
     let to = rw (← quotient) at near.to in
     let fq : SFits w128 c.wide_quotient.result = omega (arith, ints, from, to) in

@@ -10,7 +10,8 @@ pub offset_bounds-facts-fact-index : goal.offset_bounds-facts-fact-index
 offset_bounds-facts-fact-index g c = omega arith
 
 pub loop-fact-preserved : goal.loop-fact-preserved
-loop-fact-preserved g c = right_on c.args.facts.now _ _ c.loop-fact.fact-index _ _ c.loop-fact-test.true c.loop-fact.invariant c.eval.ensures
+loop-fact-preserved g c = right_on c.args.facts.now _ _ c.loop-fact.fact-index _ _ c.loop-fact-test.true
+    c.loop-fact.invariant c.eval.ensures
     c.in_ok-push.ensures.ok
 
 pub returns-in_err-push : goal.returns-in_err-push

@@ -12,7 +12,9 @@ verdict_of_line-requires-clause-answered c = as_many_answers c.args.file.now.fac
 pub returns-clause-yes : goal.returns-clause-yes
 returns-clause-yes c =
     let line : c.item.result.now ≡ line_at c.args.file.now c.args.index = sym
-    (get_or_from_slice_get c.args.file.now.lines c.args.index c.item.result.now (Refused 0) (sym c.item.ensures.item)) in
-    yes_answer c.args.file.now.version c.args.file.now.facts c.args.answers.now (line_at c.args.file.now c.args.index) _ c.requires.distinct
+    (get_or_from_slice_get c.args.file.now.lines c.args.index c.item.result.now (Refused 0) (sym c.item.ensures.item))
+    in
+    yes_answer c.args.file.now.version c.args.file.now.facts c.args.answers.now (line_at c.args.file.now c.args.index) _
+    c.requires.distinct
     c.requires.numbers c.requires.right
     (rw line at c.verdict_of_line.ensures.verdict)

@@ -15,13 +15,19 @@ listed_values-requires c = record { numbers = numbers_within _ _ _ c.requires.nu
 
 pub verdict_over-requires-clause-same : goal.verdict_over-requires-clause-same
 verdict_over-requires-clause-same c =
-    rw (c.deref.ensures.value, c.deref-in-None.ensures, c.in_ok-facts-in-None.ensures.facts, c.in_ok-values-in-None.ensures.values)
+    rw (
+      c.deref.ensures.value,
+      c.deref-in-None.ensures,
+      c.in_ok-facts-in-None.ensures.facts,
+      c.in_ok-values-in-None.ensures.values,
+    )
     (as_many_values (numbered c.args.file.now.facts c.args.numbers.now))
 
 pub verdict_over-requires-clause-distinct : goal.verdict_over-requires-clause-distinct
 verdict_over-requires-clause-distinct c =
     rw (c.deref.ensures.value, c.in_ok-facts-in-None.ensures.facts)
-    (listed_distinct c.args.file.now.facts (length c.args.file.now.facts) c.args.numbers.now c.requires.distinct (numbers_within _ _ _ c.requires.numbers)
+    (listed_distinct c.args.file.now.facts (length c.args.file.now.facts) c.args.numbers.now c.requires.distinct
+    (numbers_within _ _ _ c.requires.numbers)
     (numbers_apart _ _ _ c.requires.numbers))
 
 pub verdict_over-requires-clause-known : goal.verdict_over-requires-clause-known
@@ -30,6 +36,7 @@ verdict_over-requires-clause-known c = rw (c.deref-in-None.ensures, c.in_ok-valu
 
 pub verdict_over-requires-clause-few : goal.verdict_over-requires-clause-few
 verdict_over-requires-clause-few c =
-    let numbers = few_numbers (length c.args.file.now.facts) c.args.numbers.now c.requires.numbers (λ i h. omega (arith, c.type_inv.numbers i)) in
+    let numbers = few_numbers (length c.args.file.now.facts) c.args.numbers.now c.requires.numbers
+    (λ i h. omega (arith, c.type_inv.numbers i)) in
     let facts = as_many_listed c.args.file.now.facts c.args.numbers.now in
     rw (c.deref.ensures.value, c.in_ok-facts-in-None.ensures.facts) (omega (arith, numbers, facts))

@@ -12,4 +12,5 @@ item-requires c =
     record { within = omega (arith, n.first, n.last) }
 
 pub loop-number-preserved : goal.loop-number-preserved
-loop-number-preserved c = facts_on _ _ _ 0 _ _ _ c.loop-number-test.true c.item.ensures.item c.loop-number.invariant c.in_ok-push.ensures.items
+loop-number-preserved c = facts_on _ _ _ 0 _ _ _ c.loop-number-test.true c.item.ensures.item c.loop-number.invariant
+    c.in_ok-push.ensures.items

@@ -14,4 +14,5 @@ item-requires c =
 pub loop-number-preserved : goal.loop-number-preserved
 loop-number-preserved c =
     let value : to_z w64 (of_z w64 c.item.result.now.1) ≡ c.item.result.now.1 = search rules in
-    values_on _ _ _ 0 _ _ _ c.loop-number-test.true c.item.ensures.item c.loop-number.invariant (rw value at c.in_ok-push.ensures.ok)
+    values_on _ _ _ 0 _ _ _ c.loop-number-test.true c.item.ensures.item c.loop-number.invariant
+    (rw value at c.in_ok-push.ensures.ok)

@@ -6,6 +6,7 @@ use Rattle.cert_parser.proofs.digits.digits_value.Given as goal
 -- the rest of the digits goes on from the number so far
 abbrev pub invariant-loop-digit : goal.invariant-loop-digit
 invariant-loop-digit l = record {
-  goes_on : at_most l.greatest (value_from l.number (drop l.digit-index l.digits)) ≡ at_most l.greatest (digits_of l.digits);
+  goes_on : at_most l.greatest (value_from l.number (drop l.digit-index l.digits)) ≡ at_most l.greatest
+      (digits_of l.digits);
   small : l.number ≤ l.greatest;
 }

@@ -8,7 +8,8 @@ returns-in_err-write_echo g c = writes_first _ c.from_residual.ensures.0 c.in_er
 pub returns-in_err-write_too_far : goal.returns-in_err-write_too_far
 returns-in_err-write_too_far g c =
     let day : to_z w64 (of_z w64 c.args.day) ≡ c.args.day = search rules in
-    writes_then c.in_ok-write_echo.ensures (writes_first _ c.from_residual-in_err-write_too_far.ensures.0 (rw day at c.in_err-write_too_far.ensures))
+    writes_then c.in_ok-write_echo.ensures (writes_first _ c.from_residual-in_err-write_too_far.ensures.0
+    (rw day at c.in_err-write_too_far.ensures))
 
 pub returns : goal.returns
 returns g c =

@@ -9,12 +9,14 @@ fits v h = let f : FitsSigned w64 v = omega (arith, ints, h.0, h.1) in to_z-of_z
 
 pub returns-in-Some-clause-asks : goal.returns-in-Some-clause-asks
 returns-in-Some-clause-asks g c =
-    let k = found_kept c.args.kept.now.places c.args.fact c.in-Some.value c.requires.kept (sym c.find.ensures.found ∙ c.in-Some.is) in
+    let k = found_kept c.args.kept.now.places c.args.fact c.in-Some.value c.requires.kept
+    (sym c.find.ensures.found ∙ c.in-Some.is) in
     rw (fits c.in-Some.value k.value) (asked_kept c.args.fact c.in-Some.value k)
 
 pub returns-in-Some-clause-value : goal.returns-in-Some-clause-value
 returns-in-Some-clause-value g c =
-    let k = found_kept c.args.kept.now.places c.args.fact c.in-Some.value c.requires.kept (sym c.find.ensures.found ∙ c.in-Some.is) in
+    let k = found_kept c.args.kept.now.places c.args.fact c.in-Some.value c.requires.kept
+    (sym c.find.ensures.found ∙ c.in-Some.is) in
     rw (fits c.in-Some.value k.value) k.value
 
 pub returns-in_err-value-clause-kept : goal.returns-in_err-value-clause-kept

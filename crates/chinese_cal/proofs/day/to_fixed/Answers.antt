@@ -35,10 +35,12 @@ mid_year_day-middle-requires-clause-to_year g c =
     simp to_z-of_z (omega (arith, ints, c.from-2.ensures, year.high))
 
 pub month_beginning-requires-clause-from : goal.month_beginning-requires-clause-from
-month_beginning-requires-clause-from g c = (within_limits Chinese (fields_of_date c.args.date) 2 (omega arith) c.requires.askable.0).low
+month_beginning-requires-clause-from g c =
+    (within_limits Chinese (fields_of_date c.args.date) 2 (omega arith) c.requires.askable.0).low
 
 pub month_beginning-requires-clause-to : goal.month_beginning-requires-clause-to
-month_beginning-requires-clause-to g c = (within_limits Chinese (fields_of_date c.args.date) 2 (omega arith) c.requires.askable.0).high
+month_beginning-requires-clause-to g c =
+    (within_limits Chinese (fields_of_date c.args.date) 2 (omega arith) c.requires.askable.0).high
 
 pub returns-in_err-new_year : goal.returns-in_err-new_year
 unfolding chinese_day

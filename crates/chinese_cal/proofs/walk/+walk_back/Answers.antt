@@ -15,7 +15,8 @@ returns-clause-back g r c =
     let asks = simp to_z-of_z at rw c.moon_before.ensures.fact at here.asks in
     let rest = simp to_z-of_z at rw c.with_earlier.ensures.months at c.walk_back.ensures.back in
     let not_past = simp to_z-of_z at c.if-month-first.false in
-    rw (one_back c.args.calls c.args.first c.args.month c.args.later (omega (arith, c.if-calls-eq0.false)) not_past) (inquires_ask next asks rest)
+    rw (one_back c.args.calls c.args.first c.args.month c.args.later (omega (arith, c.if-calls-eq0.false)) not_past)
+    (inquires_ask next asks rest)
 
 pub returns-then-calls-eq0-clause-back : goal.returns-then-calls-eq0-clause-back
 unfolding months_back

@@ -10,7 +10,8 @@ returns-clause-day c =
     let fy = c.ranges.year in
     let fr : SFits w64 c.days_to_mid_year.result = search rules in
     let fm : SFits w64 (c.args.cycle -ℤ pos 1) = omega (arith, ints, c.requires.from_cycle, c.requires.to_cycle) in
-    let fp : SFits w64 (pos 60 *ℤ (c.args.cycle -ℤ pos 1)) = omega (arith, ints, c.requires.from_cycle, c.requires.to_cycle) in
+    let fp : SFits w64 (pos 60 *ℤ (c.args.cycle -ℤ pos 1)) =
+    omega (arith, ints, c.requires.from_cycle, c.requires.to_cycle) in
     let fs : SFits w64 (pos 60 *ℤ (c.args.cycle -ℤ pos 1) +ℤ c.args.year) = omega
     (arith, ints, c.requires.from_cycle, c.requires.to_cycle, c.requires.from_year, c.requires.to_year) in
     let e = simp to_z-of_z at c.days_to_mid_year.ensures.days in

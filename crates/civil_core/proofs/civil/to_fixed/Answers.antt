@@ -9,4 +9,5 @@ returns-in-Some-clause-date c =
     let f : SFits w64 c.day_number.result = search rules in
     let found = simp to_z-of_z at c.in-Some.ensures.found in
     let named = simp to_z-of_z at c.in-Some.ensures.named in
-    simp to_z-of_z (named_is_of_day c.in-Some.date c.args.year c.day_number.result c.args.month c.args.day named (found.0 refl) (sym c.day_number.ensures.day))
+    simp to_z-of_z (named_is_of_day c.in-Some.date c.args.year c.day_number.result c.args.month c.args.day named
+    (found.0 refl) (sym c.day_number.ensures.day))

@@ -10,7 +10,8 @@ unwrap-requires c =
     let f : FitsSigned w64 (c.args.day -ℤ pos 1) = omega (arith, signed_arith) in
     let only = simp to_z-of_z at c.days.ensures in
     let one = day_one c.date.result c.date.ensures in
-    c.checked_add.ensures.succeeds.1 ((can_add-days c.date.result (c.args.day -ℤ pos 1) c.days.result only).1 (omega (arith, signed_arith)))
+    c.checked_add.ensures.succeeds.1 ((can_add-days c.date.result (c.args.day -ℤ pos 1) c.days.result only).1
+    (omega (arith, signed_arith)))
 
 pub returns : goal.returns
 returns c =

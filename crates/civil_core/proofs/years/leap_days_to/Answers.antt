@@ -19,6 +19,32 @@ returns c =
     (arith, ints, e4, e100, a.not_above, a.close, b.not_above, b.close, c.requires.from, c.requires.to) in
     simp to_z-of_z (record {
       days = omega (arith, ints, e4, e100, e400);
-      near_from = omega (arith, ints, e4, e100, e400, a.not_above, a.close, b.not_above, b.close, d.not_above, d.close, c.requires.from);
-      near_to = omega (arith, ints, e4, e100, e400, a.not_above, a.close, b.not_above, b.close, d.not_above, d.close, c.requires.to);
+      near_from = omega (
+        arith,
+        ints,
+        e4,
+        e100,
+        e400,
+        a.not_above,
+        a.close,
+        b.not_above,
+        b.close,
+        d.not_above,
+        d.close,
+        c.requires.from,
+      );
+      near_to = omega (
+        arith,
+        ints,
+        e4,
+        e100,
+        e400,
+        a.not_above,
+        a.close,
+        b.not_above,
+        b.close,
+        d.not_above,
+        d.close,
+        c.requires.to,
+      );
     })

@@ -11,9 +11,33 @@ overflow_add-result c =
     let fq : SFits w128 c.floor_div-times.result = search rules in
     let fr : SFits w64 c.year_of_date.result = search rules in
     let q = simp to_z-of_z at c.floor_div-times.ensures in
-    let ft : SFits w64 c.floor_div-times.result = omega (arith, ints, c.requires.from, c.requires.to, q.not_above, q.close) in
-    let fm : SFits w64 (c.floor_div-times.result *ℤ pos 400) = omega (arith, ints, c.requires.from, c.requires.to, q.not_above, q.close) in
-    simp to_z-of_z (omega (arith, ints, c.requires.from, c.requires.to, q.not_above, q.close, c.year_of_date.ensures.from, c.year_of_date.ensures.to))
+    let ft : SFits w64 c.floor_div-times.result = omega (
+      arith,
+      ints,
+      c.requires.from,
+      c.requires.to,
+      q.not_above,
+      q.close,
+    ) in
+    let fm : SFits w64 (c.floor_div-times.result *ℤ pos 400) = omega (
+      arith,
+      ints,
+      c.requires.from,
+      c.requires.to,
+      q.not_above,
+      q.close,
+    ) in
+    simp to_z-of_z
+    (omega (
+      arith,
+      ints,
+      c.requires.from,
+      c.requires.to,
+      q.not_above,
+      q.close,
+      c.year_of_date.ensures.from,
+      c.year_of_date.ensures.to,
+    ))
 
 pub returns : goal.returns
 returns c =
@@ -25,8 +49,24 @@ returns c =
     let ft : SFits w64 times = omega (arith, ints, c.requires.from, c.requires.to, q.not_above, q.close) in
     let fm : SFits w64 (times *ℤ pos 400) = omega (arith, ints, c.requires.from, c.requires.to, q.not_above, q.close) in
     let fs : SFits w64 (times *ℤ pos 400 +ℤ c.year_of_date.result) =
-    omega (arith, ints, c.requires.from, c.requires.to, q.not_above, q.close, c.year_of_date.ensures.from, c.year_of_date.ensures.to) in
-    let fp : SFits w128 (times *ℤ pos 146097) = omega (arith, ints, c.requires.from, c.requires.to, q.not_above, q.close) in
+    omega (
+      arith,
+      ints,
+      c.requires.from,
+      c.requires.to,
+      q.not_above,
+      q.close,
+      c.year_of_date.ensures.from,
+      c.year_of_date.ensures.to,
+    ) in
+    let fp : SFits w128 (times *ℤ pos 146097) = omega (
+      arith,
+      ints,
+      c.requires.from,
+      c.requires.to,
+      q.not_above,
+      q.close,
+    ) in
     let rest = c.args.day -ℤ times *ℤ pos 146097 in
     let fe : SFits w128 rest = omega (arith, ints, c.requires.from, c.requires.to, q.not_above, q.close) in
     let fl : SFits w64 rest = omega (arith, ints, c.requires.from, c.requires.to, q.not_above, q.close) in

@@ -17,10 +17,13 @@ write_text-requires-clause-stand g c = rw c.deref.ensures.value (right_stand _ _
 
 pub returns-in_err-write_text : goal.returns-in_err-write_text
 returns-in_err-write_text g c =
-    let fails = err_from_is_err_and c.from_residual-in_err-write_text.result c.from_residual-in_err-write_text.ensures.1 in
-    let cut = cut_short _ _ _ c.in_ok-outcomes.outcomes.items c.in_ok-outcomes.ensures.right (rw c.deref.ensures.value at c.in_err-write_text.ensures.err) in
+    let fails = err_from_is_err_and c.from_residual-in_err-write_text.result c.from_residual-in_err-write_text.ensures.1
+    in
+    let cut = cut_short _ _ _ c.in_ok-outcomes.outcomes.items c.in_ok-outcomes.ensures.right
+    (rw c.deref.ensures.value at c.in_err-write_text.ensures.err) in
     record {
-      performs = performs_cut fails.0 fails.1 cut (λ is_fault. c.in_err-write_text.ensures.fault (cc fails.2)) c.in_err-write_text.ensures.later;
+      performs = performs_cut fails.0 fails.1 cut (λ is_fault. c.in_err-write_text.ensures.fault (cc fails.2))
+          c.in_err-write_text.ensures.later;
     }
 
 pub returns : goal.returns

@@ -11,17 +11,26 @@ use Rattle.conversion.proofs.renewing.renew.Goals as goal
 pub write_text-requires-clause-same : goal.write_text-requires-clause-same
 write_text-requires-clause-same g c =
     let e = stand_length _ _ (renews_stand _ _ c.in_ok-outcomes.ensures.renews) in
-    omega (arith, e, length-map c.in_ok-outcomes.outcomes.items line_outcome, length-map c.args.lines.now words_in, c.deref.ensures.len)
+    omega (
+      arith,
+      e,
+      length-map c.in_ok-outcomes.outcomes.items line_outcome,
+      length-map c.args.lines.now words_in,
+      c.deref.ensures.len,
+    )
 
 pub write_text-requires-clause-stand : goal.write_text-requires-clause-stand
 write_text-requires-clause-stand g c = rw c.deref.ensures.value (renews_stand _ _ c.in_ok-outcomes.ensures.renews)
 
 pub returns-in_err-write_text : goal.returns-in_err-write_text
 returns-in_err-write_text g c =
-    let fails = err_from_is_err_and c.from_residual-in_err-write_text.result c.from_residual-in_err-write_text.ensures.1 in
-    let cut = renewed_cut _ _ _ c.in_ok-outcomes.outcomes.items c.in_ok-outcomes.ensures.renews (rw c.deref.ensures.value at c.in_err-write_text.ensures.err) in
+    let fails = err_from_is_err_and c.from_residual-in_err-write_text.result c.from_residual-in_err-write_text.ensures.1
+    in
+    let cut = renewed_cut _ _ _ c.in_ok-outcomes.outcomes.items c.in_ok-outcomes.ensures.renews
+    (rw c.deref.ensures.value at c.in_err-write_text.ensures.err) in
     record {
-      performs = performs_cut fails.0 fails.1 cut (λ is_fault. c.in_err-write_text.ensures.fault (cc fails.2)) c.in_err-write_text.ensures.later;
+      performs = performs_cut fails.0 fails.1 cut (λ is_fault. c.in_err-write_text.ensures.fault (cc fails.2))
+          c.in_err-write_text.ensures.later;
     }
 
 pub returns : goal.returns

@@ -9,5 +9,6 @@ pub returns : goal.returns
 returns g c = record {
   renews = IfOk-weaker c.map_places.result _ _
       (λ all h. renewed_all c.args.lines.now all.items
-      (covers_zip (λ l o. Renews l (line_outcome o)) _ c.args.lines.now all.items (λ i d y p. p d) h)) c.map_places.ensures.covers;
+      (covers_zip (λ l o. Renews l (line_outcome o)) _ c.args.lines.now all.items (λ i d y p. p d) h))
+      c.map_places.ensures.covers;
 }

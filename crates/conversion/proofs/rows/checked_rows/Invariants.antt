@@ -6,4 +6,5 @@ use Rattle.conversion.proofs.rows.checked_rows.Given as goal
 
 -- the rows of the requests so far
 abbrev pub invariant-loop-request : goal.invariant-loop-request
-invariant-loop-request l = (l.rows.items ≡ map (checked_request WRITTEN) (take l.request-index l.requests)) × All CanResolve l.rows.items
+invariant-loop-request l = (l.rows.items ≡ map (checked_request WRITTEN) (take l.request-index l.requests))
+    × All CanResolve l.rows.items

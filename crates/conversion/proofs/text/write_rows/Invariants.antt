@@ -9,6 +9,7 @@ abbrev pub invariant-loop-index : goal.invariant-loop-index
 invariant-loop-index g l = record {
   wrote : Wrote (g.K.Sink.written l.fn.sink) (g.K.Sink.written l.sink)
       (l.fn.page.pending.bytes.items ++ text_from [] 0 (echoed_lines l.echoes) (map line_outcome l.outcomes))
-      (l.page.pending.bytes.items ++ text_from l.page.seen l.index (drop l.index (echoed_lines l.echoes)) (map line_outcome (drop l.index l.outcomes)));
+      (l.page.pending.bytes.items ++ text_from l.page.seen l.index (drop l.index (echoed_lines l.echoes))
+      (map line_outcome (drop l.index l.outcomes)));
   later : g.K.Sink.faults l.fn.sink ≤ g.K.Sink.faults l.sink;
 }

@@ -8,4 +8,5 @@ returns-clause-narrow g c = λ r b f h k. c.mul.ensures.encloses.narrow r _ _ (c
     (c.cos_deg-2.ensures.encloses.narrow r f k)
 
 pub returns-clause-measured : goal.returns-clause-measured
-returns-clause-measured g c = λ e h k. arc_within g.E.Enclosure.shown _ c.args.latitude c.args.phase c.mul.result e h k (returns-clause-narrow g c)
+returns-clause-measured g c = λ e h k. arc_within g.E.Enclosure.shown _ c.args.latitude c.args.phase c.mul.result e h k
+    (returns-clause-narrow g c)

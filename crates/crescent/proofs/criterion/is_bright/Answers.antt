@@ -10,7 +10,8 @@ returns-in_err-is_lit-clause-close g c = λ e h k.
 
 pub returns-in_err-is_within_quarter-clause-close : goal.returns-in_err-is_within_quarter-clause-close
 returns-in_err-is_within_quarter-clause-close g c = λ e h k.
-    let fails = err_from_is_err_and c.from_residual-in_err-is_within_quarter.result c.from_residual-in_err-is_within_quarter.ensures.1 in
+    let fails = err_from_is_err_and c.from_residual-in_err-is_within_quarter.result
+    c.from_residual-in_err-is_within_quarter.ensures.1 in
     rw (fails.1, fails.2) (c.in_err-is_within_quarter.ensures.close (2 ^ 33) e (omega arith) (arc_about _ h))
 
 pub returns-in_err-is_high-clause-close : goal.returns-in_err-is_high-clause-close

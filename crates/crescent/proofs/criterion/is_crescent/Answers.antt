@@ -10,5 +10,6 @@ returns-in_err-is_past_new-clause-close g c = λ e f h k.
 
 pub returns-in_err-is_before_quarter-clause-close : goal.returns-in_err-is_before_quarter-clause-close
 returns-in_err-is_before_quarter-clause-close g c = λ e f h k.
-    let fails = err_from_is_err_and c.from_residual-in_err-is_before_quarter.result c.from_residual-in_err-is_before_quarter.ensures.1 in
+    let fails = err_from_is_err_and c.from_residual-in_err-is_before_quarter.result
+    c.from_residual-in_err-is_before_quarter.ensures.1 in
     rw (fails.1, fails.2) (c.in_err-is_before_quarter.ensures.close (2 ^ 38) e (omega arith) (angle_about _ f))

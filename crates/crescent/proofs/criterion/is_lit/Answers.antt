@@ -9,7 +9,8 @@ use Rattle.crescent.proofs.criterion.is_lit.Goals as goal
 pub returns-clause-leads : goal.returns-clause-leads
 unfolding is_lit_of
 returns-clause-leads g c = λ w a h. leads_bind_exact (λ more. answer (not more))
-    (c.in_ok-more.ensures.leads w _ _ (c.cos_deg-least.ensures.encloses.holds w _ (c.from_frac.ensures.encloses.holds w h.deep)) h) (leads_answer refl)
+    (c.in_ok-more.ensures.leads w _ _
+    (c.cos_deg-least.ensures.encloses.holds w _ (c.from_frac.ensures.encloses.holds w h.deep)) h) (leads_answer refl)
 
 pub returns-in_err-more-clause-close : goal.returns-in_err-more-clause-close
 returns-in_err-more-clause-close g c = λ v e b h.

@@ -16,7 +16,8 @@ endpoints_of-requires c =
     let fh : SFits w128 c.ceil_div.result = search rules in
     let i = simp to_z-of_z at c.floor_div.ensures in
     let j = simp to_z-of_z at c.ceil_div.ensures in
-    simp to_z-of_z (outward_order _ _ _ _ _ (omega (arith, ints)) i j (omega (arith, ints, c.requires.some, c.from-units.ensures)))
+    simp to_z-of_z (outward_order _ _ _ _ _ (omega (arith, ints)) i j
+    (omega (arith, ints, c.requires.some, c.from-units.ensures)))
 
 pub returns : goal.returns
 returns c =
@@ -28,7 +29,8 @@ returns c =
     let j = simp c.num-parts.ensures at (simp to_z-of_z at c.ceil_div.ensures) in
     let k = shows _ _ _ (simp to_z-of_z at c.endpoints_of.ensures.endpoints) in
     let f = fraction_of c.args.value in
-    let e : c.from-units.result *ℤ pos (2 ^ 36) ≡ pos (f.below + 1) = omega (arith, ints, c.requires.some, c.requires.denominator, c.from-units.ensures) in
+    let e : c.from-units.result *ℤ pos (2 ^ 36) ≡ pos (f.below + 1) =
+    omega (arith, ints, c.requires.some, c.requires.denominator, c.from-units.ensures) in
     let l = fine_floor c.floor_div.result f.num c.from-units.result _ e i in
     let u = fine_ceiling c.ceil_div.result f.num c.from-units.result _ e j in
     record {

@@ -6,5 +6,6 @@ use Rattle.encl_core.proofs.search.first_day.Given as goal
 
 abbrev pub invariant-loop-later : goal.invariant-loop-later
 invariant-loop-later g l =
-    (w : World) → 40 ≤ w.depth → Continues w Exact (first_day_from (g.T.DayTest.test_of l.test) l.start) l.fn.trail.count
+    (w : World) → 40 ≤ w.depth → Continues w Exact (first_day_from (g.T.DayTest.test_of l.test) l.start)
+    l.fn.trail.count
     (first_of_days (46 - l.later) (g.T.DayTest.test_of l.test) (l.start +ℤ pos l.later)) l.trail.count

@@ -20,12 +20,15 @@ returns-in-Ok-clause-leads g c = λ w e h.
 pub returns-in-Err-clause-leads : goal.returns-in-Err-clause-leads
 returns-in-Err-clause-leads g c = λ w e h.
     rw (← c.in-Err.ensures.named.0)
-    (leads_undecided_cell (multiples c.args.modulus) e _ (λ p. answer (remainder c.args.modulus e p)) _ c.in-Err.at (lies h) c.in-Err.ensures.named.1
+    (leads_undecided_cell (multiples c.args.modulus) e _ (λ p. answer (remainder c.args.modulus e p)) _ c.in-Err.at
+    (lies h) c.in-Err.ensures.named.1
     c.in-Err.ensures.counted (between_cells c.in-Err.ensures.undecided.open_there c.in-Err.ensures.undecided.endpoints))
 
 pub returns-in-Ok-clause-measured : goal.returns-in-Ok-clause-measured
-returns-in-Ok-clause-measured g c = λ v e b h. left_within g.E.Enclosure.shown _ c.args.modulus v c.args.x c.in-Ok.rest e (omega (arith, c.ranges.modulus)) h
+returns-in-Ok-clause-measured g c = λ v e b h. left_within g.E.Enclosure.shown _ c.args.modulus v c.args.x c.in-Ok.rest
+    e (omega (arith, c.ranges.modulus)) h
     (λ q r x. c.in-Ok.ensures.narrow q r x)
 
 pub returns-in-Err-clause-measured : goal.returns-in-Err-clause-measured
-returns-in-Err-clause-measured g c = λ v e b h. wrap_close c.args.modulus v _ c.args.site c.in-Err.at c.in-Err.ensures.named.0 b h c.in-Err.ensures.undecided
+returns-in-Err-clause-measured g c = λ v e b h. wrap_close c.args.modulus v _ c.args.site c.in-Err.at
+    c.in-Err.ensures.named.0 b h c.in-Err.ensures.undecided

@@ -13,10 +13,12 @@ use Rattle.encl_core.proofs.turning.angle_endpoints.Goals as goal
 
 pub returns-in_err-x-clause-narrow : goal.returns-in_err-x-clause-narrow
 returns-in_err-x-clause-narrow c = λ w a h.
-    sum_second coarse w (constant_bound limits_36 (ten_millionths c.args.phase)) (scaled_bound limits_36 (daily_ten_millionths c.args.rate) a) _
+    sum_second coarse w (constant_bound limits_36 (ten_millionths c.args.phase))
+    (scaled_bound limits_36 (daily_ten_millionths c.args.rate) a) _
     (scaled_first coarse w (daily_ten_millionths c.args.rate) a _ (rw c.in_err-x.was at h))
 
-turned : (c : goal.After-endpoints_of) → AreTurned c.args.phase c.args.rate c.in_ok-x.x.lo c.in_ok-x.x.hi c.turned-p.result c.turned-q.result c.sorted-least.result.0
+turned : (c : goal.After-endpoints_of) → AreTurned c.args.phase c.args.rate c.in_ok-x.x.lo c.in_ok-x.x.hi
+    c.turned-p.result c.turned-q.result c.sorted-least.result.0
     c.sorted-least.result.1 c.floor_div.result c.ceil_div.result
 turned c =
     let fa = c.ranges.phase in

@@ -24,7 +24,8 @@ returns-in_err-kilometres-clause-early g c = λ p q.
     let f : SFits w64 c.args.day = c.ranges.day in
     let n = simp to_z-of_z at c.from_int.ensures.encloses.narrow in
     let fails = err_from_is_err_and c.from_residual.result c.from_residual.ensures.1 in
-    rw (fails.1, fails.2) (day_not_of_year g.E.Enclosure.shown _ c.args.day c.from_int.result _ p q c.requires.day n c.in_err-kilometres.ensures.open)
+    rw (fails.1, fails.2) (day_not_of_year g.E.Enclosure.shown _ c.args.day c.from_int.result _ p q c.requires.day n
+    c.in_err-kilometres.ensures.open)
 
 pub returns-clause-close : goal.returns-clause-close
 returns-clause-close g c = λ e.
@@ -34,7 +35,8 @@ returns-clause-close g c = λ e.
     (simp to_z-of_z at c.from_int.ensures.encloses.narrow) in
     let k = c.in_ok-kilometres.ensures.measured 0 e (omega arith) i in
     c.rounded.ensures.close (2 ^ 42) e (omega arith)
-    (looser _ _ _ _ (16384 * 0 + 2 ^ 42) (2 ^ 42) (shown c.in_ok-kilometres.kilometres) (omega (arith, ints)) (omega (arith, ints)) (omega arith) k)
+    (looser _ _ _ _ (16384 * 0 + 2 ^ 42) (2 ^ 42) (shown c.in_ok-kilometres.kilometres) (omega (arith, ints))
+    (omega (arith, ints)) (omega arith) k)
 
 pub returns-in_err-kilometres-clause-close : goal.returns-in_err-kilometres-clause-close
 returns-in_err-kilometres-clause-close g c = λ e.

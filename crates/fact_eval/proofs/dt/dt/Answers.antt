@@ -17,7 +17,8 @@ returns-clause-leads g c = λ w d.
     let y : SFits w64 c.year_of_whole_day-year.result = search rules in
     let l = simp to_z-of_z at (c.in_ok-days.ensures.leads w d) in
     let k = simp to_z-of_z at (c.year_of_whole_day-year.ensures.leads w) in
-    leads_bind_exact _ k (leads_on _ l (c.floor_step.ensures.leads w _ (c.milliseconds.ensures.holds w _ (leaf_within l))))
+    leads_bind_exact _ k
+    (leads_on _ l (c.floor_step.ensures.leads w _ (c.milliseconds.ensures.holds w _ (leaf_within l))))
 
 pub returns-clause-value : goal.returns-clause-value
 returns-clause-value g c = dt_is_value c.args.day _ _ _ c.requires.day (returns-clause-leads g c)
@@ -29,10 +30,12 @@ returns-clause-units g c = λ p q.
     let e = simp to_z-of_z at c.year_of_whole_day-year.ensures.year in
     let n = simp to_z-of_z at (c.in_ok-days.ensures.close p q) in
     let m = rounded_narrow g.E.Enclosure.shown _ _ _ c.milliseconds.result p q n c.milliseconds.ensures.narrow in
-    rw (← e) (IfErr-weaker c.floor_step.result _ _ (λ o k. close_round _ _ c.year_of_whole_day-year.result o m k) c.floor_step.ensures.open)
+    rw (← e) (IfErr-weaker c.floor_step.result _ _ (λ o k. close_round _ _ c.year_of_whole_day-year.result o m k)
+    c.floor_step.ensures.open)
 
 pub returns-clause-early : goal.returns-clause-early
-returns-clause-early g c = λ p q. IfErr-weaker c.floor_step.result _ _ (λ f o. round_not_of_year _ f o) c.floor_step.ensures.open
+returns-clause-early g c = λ p q. IfErr-weaker c.floor_step.result _ _ (λ f o. round_not_of_year _ f o)
+    c.floor_step.ensures.open
 
 pub returns-in_err-days-clause-leads : goal.returns-in_err-days-clause-leads
 unfolding dt_of rounded_of
@@ -58,7 +61,8 @@ pub returns-clause-close : goal.returns-clause-close
 returns-clause-close g c = λ e.
     let d = c.in_ok-days.ensures.measured e in
     c.floor_step.ensures.close (86400000 * 2 ^ 14 + 2 ^ 10) (omega arith)
-    (milliseconds_within g.E.Enclosure.shown _ (2 ^ 14) c.in_ok-days.days c.milliseconds.result e d (λ r x. c.milliseconds.ensures.narrow r x))
+    (milliseconds_within g.E.Enclosure.shown _ (2 ^ 14) c.in_ok-days.days c.milliseconds.result e d
+    (λ r x. c.milliseconds.ensures.narrow r x))
 
 pub returns-in_err-days-clause-close : goal.returns-in_err-days-clause-close
 returns-in_err-days-clause-close g c = λ e.

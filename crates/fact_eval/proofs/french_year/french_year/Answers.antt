@@ -3,4 +3,7 @@ use Rattle.std.proofs.lemmas.Int.{ints}
 use Rattle.fact_eval.proofs.french_year.french_year.Goals as goal
 
 pub returns-clause-close : goal.returns-clause-close
-returns-clause-close g c = λ e. c.season_day.ensures.close ((omega (arith, ints), omega (arith, ints)), (omega (arith, ints), omega (arith, ints))) e
+returns-clause-close g c = λ e. c.season_day.ensures.close (
+  (omega (arith, ints), omega (arith, ints)),
+  (omega (arith, ints), omega (arith, ints)),
+) e

@@ -26,7 +26,8 @@ returns-clause-close g c = λ e h.
     let f : SFits w64 c.args.day = c.ranges.day in
     let m = simp to_z-of_z at c.in_ok-longitude.ensures.measured in
     c.floor_step.ensures.close (2 ^ 32 + 3 * 2 ^ 9 + 2 ^ 9) (omega arith)
-    (terms_within g.E.Enclosure.shown _ (2 ^ 32 + 3 * 2 ^ 9) c.in_ok-longitude.longitude e (m (midnight_day _ h) e) c.mul_frac.result
+    (terms_within g.E.Enclosure.shown _ (2 ^ 32 + 3 * 2 ^ 9) c.in_ok-longitude.longitude e (m (midnight_day _ h) e)
+    c.mul_frac.result
     (λ r x. c.mul_frac.ensures.encloses.narrow r x))
 
 pub returns-in_err-longitude-clause-close : goal.returns-in_err-longitude-clause-close

@@ -23,7 +23,8 @@ returns-clause-close g c = λ e.
     let f : SFits w64 c.args.day = c.ranges.day in
     let m = simp to_z-of_z at c.midnight.ensures.measured in
     let t = m e (midnight_day _ c.requires.day) in
-    c.day_at.ensures.close (2 ^ 30) e (omega arith) (dated_moment _ _ (c.in_ok-moment.ensures.measured (3 * 2 ^ 8) e (omega arith) t))
+    c.day_at.ensures.close (2 ^ 30) e (omega arith)
+    (dated_moment _ _ (c.in_ok-moment.ensures.measured (3 * 2 ^ 8) e (omega arith) t))
 
 pub returns-in_err-moment-clause-close : goal.returns-in_err-moment-clause-close
 returns-in_err-moment-clause-close g c = λ e.

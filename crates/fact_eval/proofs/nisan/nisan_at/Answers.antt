@@ -19,7 +19,10 @@ nisan_on-requires g c =
     let f : SFits w64 c.args.day = c.ranges.day in
     let t = simp to_z-of_z at (c.in_ok-t.ensures.leads (at_depth 40) (omega arith)) in
     let n : SFits w64 c.in_ok-equinox.equinox = search rules in
-    record { day = simp to_z-of_z (equinox_near (at_depth 40) c.args.day _ t (c.in_ok-equinox.ensures.leads (at_depth 40) _ (leaf_within t))) }
+    record {
+      day = simp to_z-of_z
+          (equinox_near (at_depth 40) c.args.day _ t (c.in_ok-equinox.ensures.leads (at_depth 40) _ (leaf_within t)));
+    }
 
 pub returns-clause-leads : goal.returns-clause-leads
 unfolding nisan_of nisan_by_of next_equinox_of nisan_on_of
@@ -35,7 +38,8 @@ pub returns-clause-early : goal.returns-clause-early
 returns-clause-early g c = λ z p q.
     let f : SFits w64 c.args.day = c.ranges.day in
     let t = simp to_z-of_z at (c.in_ok-t.ensures.leads (at_depth 40) (omega arith)) in
-    let both = leads_on (λ x. cell DayFloor integers x answer) t (c.in_ok-equinox.ensures.leads (at_depth 40) _ (leaf_within t)) in
+    let both = leads_on (λ x. cell DayFloor integers x answer) t
+    (c.in_ok-equinox.ensures.leads (at_depth 40) _ (leaf_within t)) in
     late_is_not_early c.nisan_on.result (three_made (at_depth 40) (least_first _ (equinox_least c.args.day)) z both)
     (c.nisan_on.ensures.leads (at_depth 40) _ (leaf_within t))
 
@@ -45,4 +49,5 @@ returns-clause-close g c = λ e l. c.nisan_on.ensures.close e l (c.in_ok-t.ensur
 pub returns-in_err-equinox-clause-close : goal.returns-in_err-equinox-clause-close
 returns-in_err-equinox-clause-close g c = λ e l.
     let fails = err_from_is_err_and c.from_residual-in_err-equinox.result c.from_residual-in_err-equinox.ensures.1 in
-    rw (fails.1, fails.2) (c.in_err-equinox.ensures.close (2 ^ 33) (omega arith) (moment_about _ _ (c.in_ok-t.ensures.measured e)))
+    rw (fails.1, fails.2) (c.in_err-equinox.ensures.close (2 ^ 33) (omega arith)
+    (moment_about _ _ (c.in_ok-t.ensures.measured e)))

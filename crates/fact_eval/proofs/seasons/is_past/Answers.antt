@@ -14,5 +14,6 @@ returns-clause-leads g c = λ w x h.
 pub returns-clause-close : goal.returns-clause-close
 returns-clause-close g c = λ s v e b h.
     let f : SFits w64 c.args.degrees = c.ranges.degrees in
-    let n = whole_about g.E.Enclosure.shown _ c.args.degrees c.from_int.result e s (simp to_z-of_z at c.from_int.ensures.encloses.narrow) in
+    let n = whole_about g.E.Enclosure.shown _ c.args.degrees c.from_int.result e s
+    (simp to_z-of_z at c.from_int.ensures.encloses.narrow) in
     c.less_step.ensures.close 0 v (omega (arith, b)) n (turn_about v _ h)

@@ -25,6 +25,7 @@ returns-in_err-is_more-clause-leads g c = λ w x h.
 pub returns-in_err-is_more-clause-close : goal.returns-in_err-is_more-clause-close
 returns-in_err-is_more-clause-close g c = λ s v e b h.
     let f : SFits w64 c.args.degrees = c.ranges.degrees in
-    let n = whole_about g.E.Enclosure.shown _ c.args.degrees c.from_int.result e s (simp to_z-of_z at c.from_int.ensures.encloses.narrow) in
+    let n = whole_about g.E.Enclosure.shown _ c.args.degrees c.from_int.result e s
+    (simp to_z-of_z at c.from_int.ensures.encloses.narrow) in
     let fails = err_from_is_err_and c.from_residual.result c.from_residual.ensures.1 in
     rw (fails.1, fails.2) (c.in_err-is_more.ensures.close 0 v (omega (arith, b)) n (turn_about v _ h))

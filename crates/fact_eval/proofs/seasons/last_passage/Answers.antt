@@ -6,5 +6,6 @@ use Rattle.fact_eval.proofs.seasons.last_passage.Goals as goal
 pub returns-clause-measured : goal.returns-clause-measured
 returns-clause-measured g c = λ s e.
     let f : SFits w64 c.args.longitude = c.ranges.longitude in
-    let n = whole_moment g.E.Enclosure.shown _ c.args.longitude c.from_int.result e s (simp to_z-of_z at c.from_int.ensures.encloses.narrow) in
+    let n = whole_moment g.E.Enclosure.shown _ c.args.longitude c.from_int.result e s
+    (simp to_z-of_z at c.from_int.ensures.encloses.narrow) in
     c.estimate.ensures.measured (2 ^ 33) e (omega arith) n (c.in_ok-there.ensures.measured e)

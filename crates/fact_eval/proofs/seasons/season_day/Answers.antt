@@ -11,8 +11,10 @@ returns-clause-leads g c = λ w d.
     let f : SFits w64 c.args.day = c.ranges.day in
     let n : SFits w64 c.args.season.longitude = search rules in
     let q : SFits w64 c.in_ok-start.start = search rules in
-    let p : SFits w64 (c.in_ok-start.start -ℤ pos 1) = omega (arith, ints, c.in_ok-start.ensures.from, c.in_ok-start.ensures.to) in
-    leads_bind_exact _ (simp to_z-of_z at (c.in_ok-start.ensures.leads w d)) (simp to_z-of_z at (c.first_day.ensures.leads w d))
+    let p : SFits w64 (c.in_ok-start.start -ℤ pos 1) =
+    omega (arith, ints, c.in_ok-start.ensures.from, c.in_ok-start.ensures.to) in
+    leads_bind_exact _ (simp to_z-of_z at (c.in_ok-start.ensures.leads w d))
+    (simp to_z-of_z at (c.first_day.ensures.leads w d))
 
 pub returns-clause-close : goal.returns-clause-close
 returns-clause-close g c = λ s e. c.first_day.ensures.close (λ d l h. s.1) e

@@ -22,17 +22,20 @@ returns-clause-close g c = λ e k h.
     let shown = g.E.Enclosure.shown in
     let n : SFits w64 c.args.longitude = c.ranges.longitude in
     let f : SFits w64 c.args.day = c.ranges.day in
-    let l = whole_moment shown _ c.args.longitude c.from_int.result e k (simp to_z-of_z at c.from_int.ensures.encloses.narrow) in
+    let l = whole_moment shown _ c.args.longitude c.from_int.result e k
+    (simp to_z-of_z at c.from_int.ensures.encloses.narrow) in
     let m = simp to_z-of_z at c.midnight.ensures.measured in
     let t = m e (midnight_day _ h) in
-    c.day_at.ensures.close (4 * (3 * 2 ^ 8) + 2 ^ 33) e (omega arith) (c.in_ok-moment.ensures.measured (3 * 2 ^ 8) e (omega arith) l t)
+    c.day_at.ensures.close (4 * (3 * 2 ^ 8) + 2 ^ 33) e (omega arith)
+    (c.in_ok-moment.ensures.measured (3 * 2 ^ 8) e (omega arith) l t)
 
 pub returns-in_err-moment-clause-close : goal.returns-in_err-moment-clause-close
 returns-in_err-moment-clause-close g c = λ e k h.
     let shown = g.E.Enclosure.shown in
     let n : SFits w64 c.args.longitude = c.ranges.longitude in
     let f : SFits w64 c.args.day = c.ranges.day in
-    let l = whole_moment shown _ c.args.longitude c.from_int.result e k (simp to_z-of_z at c.from_int.ensures.encloses.narrow) in
+    let l = whole_moment shown _ c.args.longitude c.from_int.result e k
+    (simp to_z-of_z at c.from_int.ensures.encloses.narrow) in
     let m = simp to_z-of_z at c.midnight.ensures.measured in
     let t = m e (midnight_day _ h) in
     let fails = err_from_is_err_and c.from_residual.result c.from_residual.ensures.1 in

@@ -26,7 +26,8 @@ returns-clause-close g c = λ e.
     let f : SFits w64 c.args.day = c.ranges.day in
     let q : SFits w64 c.term_longitude.result = search rules in
     let m = simp to_z-of_z at c.longitude_day.ensures.close in
-    m e (omega (arith, ints, c.term_longitude.ensures.from), omega (arith, ints, c.term_longitude.ensures.to)) c.requires.day
+    m e (omega (arith, ints, c.term_longitude.ensures.from), omega (arith, ints, c.term_longitude.ensures.to))
+    c.requires.day
 
 pub returns-in_err-spans-clause-close : goal.returns-in_err-spans-clause-close
 returns-in_err-spans-clause-close g c = λ e.

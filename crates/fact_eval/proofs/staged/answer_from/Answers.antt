@@ -5,8 +5,10 @@ pub returns : goal.returns
 returns g c = record {
   right = λ k.
       rw c.answer.ensures
-      (right_result c.args.fact c.evaluate_by.result c.evaluate_by.new.trail.count (λ w d. rw c.anew-trail.ensures.empty at (c.evaluate_by.ensures.leads w d))
-      c.evaluate_by.ensures.value (c.evaluate_by.ensures.early c.anew-trail.ensures.empty c.requires.least c.requires.most)
+      (right_result c.args.fact c.evaluate_by.result c.evaluate_by.new.trail.count
+      (λ w d. rw c.anew-trail.ensures.empty at (c.evaluate_by.ensures.leads w d))
+      c.evaluate_by.ensures.value (c.evaluate_by.ensures.early c.anew-trail.ensures.empty c.requires.least
+      c.requires.most)
       (rw c.answer.ensures at k));
   close = λ b. rw c.answer.ensures (close_answer c.evaluate_by.result (c.evaluate_by.ensures.close b));
 }

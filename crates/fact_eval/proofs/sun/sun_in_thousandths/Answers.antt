@@ -21,14 +21,16 @@ pub returns-clause-value : goal.returns-clause-value
 returns-clause-value g c = sun_is_value c.args.day _ _ _ (returns-clause-leads g c)
 
 pub returns-clause-early : goal.returns-clause-early
-returns-clause-early g c = λ p q. IfErr-weaker c.floor_step.result _ _ (λ f o. round_not_of_year _ f o) c.floor_step.ensures.open
+returns-clause-early g c = λ p q. IfErr-weaker c.floor_step.result _ _ (λ f o. round_not_of_year _ f o)
+    c.floor_step.ensures.open
 
 pub returns-in_err-degrees-clause-early : goal.returns-in_err-degrees-clause-early
 returns-in_err-degrees-clause-early g c = λ p q.
     let f : SFits w64 c.args.day = c.ranges.day in
     let n = simp to_z-of_z at c.from_int.ensures.encloses.narrow in
     let fails = err_from_is_err_and c.from_residual.result c.from_residual.ensures.1 in
-    rw (fails.1, fails.2) (day_not_of_year g.E.Enclosure.shown _ c.args.day c.from_int.result _ p q c.requires.day n c.in_err-degrees.ensures.open)
+    rw (fails.1, fails.2) (day_not_of_year g.E.Enclosure.shown _ c.args.day c.from_int.result _ p q c.requires.day n
+    c.in_err-degrees.ensures.open)
 
 pub returns-clause-close : goal.returns-clause-close
 returns-clause-close g c = λ e.
@@ -38,7 +40,8 @@ returns-clause-close g c = λ e.
     (simp to_z-of_z at c.from_int.ensures.encloses.narrow) in
     let s = c.in_ok-degrees.ensures.measured 0 e (omega arith) i in
     c.floor_step.ensures.close (1000 * (2 * 0 + 2 ^ 32) + 2 ^ 9) (omega arith)
-    (thousandths_within shown _ (2 * 0 + 2 ^ 32) c.in_ok-degrees.degrees e s c.mul_frac.result (λ r x. c.mul_frac.ensures.encloses.narrow r x))
+    (thousandths_within shown _ (2 * 0 + 2 ^ 32) c.in_ok-degrees.degrees e s c.mul_frac.result
+    (λ r x. c.mul_frac.ensures.encloses.narrow r x))
 
 pub returns-in_err-degrees-clause-close : goal.returns-in_err-degrees-clause-close
 returns-in_err-degrees-clause-close g c = λ e.

@@ -9,7 +9,8 @@ use Rattle.fact_eval.proofs.sunsets.sunset_in_minutes.Goals as goal
 pub returns-in-Some-clause-value : goal.returns-in-Some-clause-value
 returns-in-Some-clause-value g c =
     let f : SFits w64 c.args.day = c.ranges.day in
-    sunset_is_value c.args.place c.in-Some.location c.args.day _ _ _ c.in-Some.ensures (λ w d. simp to_z-of_z at (c.minutes_of_sunset.ensures.leads w d))
+    sunset_is_value c.args.place c.in-Some.location c.args.day _ _ _ c.in-Some.ensures
+    (λ w d. simp to_z-of_z at (c.minutes_of_sunset.ensures.leads w d))
 
 pub returns-in-Some-clause-close : goal.returns-in-Some-clause-close
 returns-in-Some-clause-close g c = λ e.

@@ -28,4 +28,8 @@ returns c =
       to = omega (arith, ints, c.requires.year.0, c.requires.year.1);
     }) in
     let fs : SFits w64 (pos 654595 +ℤ c.days_of_years.result) = omega (arith, ints, e, n.from, n.to) in
-    simp to_z-of_z (record { day = omega (arith, ints, e); near = (omega (arith, ints, e, n.from, n.to), omega (arith, ints, e, n.from, n.to)) })
+    simp to_z-of_z
+    (record {
+      day = omega (arith, ints, e);
+      near = (omega (arith, ints, e, n.from, n.to), omega (arith, ints, e, n.from, n.to));
+    })

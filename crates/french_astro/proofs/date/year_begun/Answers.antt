@@ -28,4 +28,8 @@ returns c =
       to = omega (arith, ints, c.requires.first.0, c.requires.first.1);
     }) in
     let fs : SFits w64 (pos 1 +ℤ c.years_of_days.result) = omega (arith, ints, e, n.from, n.to) in
-    simp to_z-of_z (record { year = omega (arith, ints, e); near = (omega (arith, ints, e, n.from, n.to), omega (arith, ints, e, n.from, n.to)) })
+    simp to_z-of_z
+    (record {
+      year = omega (arith, ints, e);
+      near = (omega (arith, ints, e, n.from, n.to), omega (arith, ints, e, n.from, n.to));
+    })

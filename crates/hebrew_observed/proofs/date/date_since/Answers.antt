@@ -6,7 +6,8 @@ use Rattle.hebrew_observed.specs.Years.{hebrew_in_year}
 use Rattle.hebrew_observed.proofs.date.date_since.Goals as goal
 
 -- before the first of Nisan the year before is asked
-since_earlier : (day first year nisan : ℤ) → int_lt day nisan ≡ true → hebrew_since day first year nisan ≡ hebrew_in_year day first (year -ℤ pos 1)
+since_earlier : (day first year nisan : ℤ) → int_lt day nisan ≡ true
+    → hebrew_since day first year nisan ≡ hebrew_in_year day first (year -ℤ pos 1)
 unfolding hebrew_since
 since_earlier day first year nisan early = rw early refl
 

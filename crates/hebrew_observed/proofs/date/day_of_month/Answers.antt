@@ -3,4 +3,15 @@ use Rattle.std.proofs.lemmas.Int.{ints}
 use Rattle.hebrew_observed.proofs.date.day_of_month.Goals as goal
 
 pub returns : goal.returns
-returns c = record { day = omega (arith, ints, c.ranges.day, c.ranges.first, c.requires.day.0, c.requires.day.1, c.requires.first.0, c.requires.first.1) }
+returns c = record {
+  day = omega (
+    arith,
+    ints,
+    c.ranges.day,
+    c.ranges.first,
+    c.requires.day.0,
+    c.requires.day.1,
+    c.requires.first.0,
+    c.requires.first.1,
+  );
+}

@@ -12,4 +12,10 @@ returns c =
     let e = simp to_z-of_z at c.quotient.ensures.quotient in
     let h = days_halved c.args.months in
     let n = days_near c.args.months c.requires.from c.requires.to in
-    simp to_z-of_z (record { days = e ∙ h; from_first = omega (arith, ints, e, h, n.from); to_last = omega (arith, ints, e, h, n.to) })
+    simp to_z-of_z
+    (record {
+      days = e ∙ h;
+      from_first = omega (arith, ints, e, h, n.from);
+      to_last = omega
+          (arith, ints, e, h, n.to);
+    })

@@ -13,6 +13,8 @@ returns-clause-day c =
     let fr : SFits w64 c.days_of_months.result = search rules in
     let fo : SFits w64 (c.args.month -ℤ pos 1) = omega (arith, ints, c.requires.month.0, c.requires.month.1) in
     let e = simp to_z-of_z at near.days in
-    let fs : SFits w64 (c.args.nisan +ℤ c.days_of_months.result) = omega (arith, ints, value.0, value.1, near.from_first, near.to_last) in
-    let ft : SFits w64 (c.args.nisan +ℤ c.days_of_months.result +ℤ pos 15) = omega (arith, ints, value.0, value.1, near.from_first, near.to_last) in
+    let fs : SFits w64 (c.args.nisan +ℤ c.days_of_months.result) =
+    omega (arith, ints, value.0, value.1, near.from_first, near.to_last) in
+    let ft : SFits w64 (c.args.nisan +ℤ c.days_of_months.result +ℤ pos 15) =
+    omega (arith, ints, value.0, value.1, near.from_first, near.to_last) in
     simp to_z-of_z (omega (arith, ints, e))

@@ -10,4 +10,5 @@ returns c =
     let e = simp to_z-of_z at c.spans_of.ensures.spans in
     let s = months_are_spans c.args.days in
     let n = months_near c.args.days (record { from = c.requires.days.0; to = c.requires.days.1 }) in
-    simp to_z-of_z (record { months = e ∙ sym s; near = (omega (arith, ints, e, s, n.from), omega (arith, ints, e, s, n.to)) })
+    simp to_z-of_z
+    (record { months = e ∙ sym s; near = (omega (arith, ints, e, s, n.from), omega (arith, ints, e, s, n.to)) })

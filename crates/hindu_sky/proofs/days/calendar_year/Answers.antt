@@ -21,12 +21,14 @@ pub returns-clause-early : goal.returns-clause-early
 returns-clause-early g c = λ z p q.
     let f : SFits w64 c.args.day = c.ranges.day in
     let n = simp to_z-of_z at c.from_int.ensures.encloses.narrow in
-    whole_day_year g.E.Enclosure.shown _ c.args.day c.from_int.result c.hindu_year.result p q c.requires.day n c.hindu_year.ensures.open
+    whole_day_year g.E.Enclosure.shown _ c.args.day c.from_int.result c.hindu_year.result p q c.requires.day n
+    c.hindu_year.ensures.open
 
 pub returns-clause-close : goal.returns-clause-close
 returns-clause-close g c = λ e.
     let f : SFits w64 c.args.day = c.ranges.day in
     let d = c.requires.day in
     let n = simp to_z-of_z at c.from_int.ensures.encloses.narrow in
-    c.hindu_year.ensures.close 0 e (omega arith) (day_recent g.E.Enclosure.shown _ c.args.day c.from_int.result e (omega (arith, ints, d.0))
+    c.hindu_year.ensures.close 0 e (omega arith) (day_recent g.E.Enclosure.shown _ c.args.day c.from_int.result e
+    (omega (arith, ints, d.0))
     (omega (arith, ints, d.1)) n)

@@ -23,7 +23,8 @@ pub returns-clause-close : goal.returns-clause-close
 returns-clause-close g c = λ v e b h.
     let p = c.in_ok-degrees.ensures.measured v e (omega (arith, b)) h in
     c.floor_step.ensures.close (24 * v + 2 ^ 37 + 2 ^ 9) (omega (arith, b))
-    (lunar_within g.E.Enclosure.shown _ (24 * v + 2 ^ 37) c.in_ok-degrees.degrees c.mul_frac.result e p (λ r x. c.mul_frac.ensures.encloses.narrow r x))
+    (lunar_within g.E.Enclosure.shown _ (24 * v + 2 ^ 37) c.in_ok-degrees.degrees c.mul_frac.result e p
+    (λ r x. c.mul_frac.ensures.encloses.narrow r x))
 
 pub returns-in_err-degrees-clause-close : goal.returns-in_err-degrees-clause-close
 returns-in_err-degrees-clause-close g c = λ v e b h.

@@ -13,7 +13,8 @@ returns-clause-leads g c = λ w x h.
     let q : SFits w64 c.in_ok-degrees.degrees = search rules in
     let e = simp to_z-of_z at c.start.ensures.start in
     let l = simp to_z-of_z at (c.first_in_sign.ensures.leads w h.deep) in
-    leads_bind_exact _ (c.in_ok-there.ensures.leads w x h) (leads_bind_exact _ (c.in_ok-degrees.ensures.leads w x h) (rw e at l))
+    leads_bind_exact _ (c.in_ok-there.ensures.leads w x h) (leads_bind_exact _ (c.in_ok-degrees.ensures.leads w x h)
+    (rw e at l))
 
 pub returns-clause-close : goal.returns-clause-close
 returns-clause-close g c = λ v e b h.

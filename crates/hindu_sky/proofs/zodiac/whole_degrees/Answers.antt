@@ -21,7 +21,8 @@ returns-clause-near g c =
 
 pub returns-clause-close : goal.returns-clause-close
 returns-clause-close g c = λ v e b h.
-    c.floor_step.ensures.close (3 * v + 2 ^ 34) (omega (arith, b)) (turn_about (3 * v + 2 ^ 34) _ (c.in_ok-longitude.ensures.measured v e (omega (arith, b)) h))
+    c.floor_step.ensures.close (3 * v + 2 ^ 34) (omega (arith, b))
+    (turn_about (3 * v + 2 ^ 34) _ (c.in_ok-longitude.ensures.measured v e (omega (arith, b)) h))
 
 pub returns-in_err-longitude-clause-close : goal.returns-in_err-longitude-clause-close
 returns-in_err-longitude-clause-close g c = λ v e b h.

@@ -10,4 +10,5 @@ returns-clause-leads g c = λ w x h. c.floor_step.ensures.leads w _ (c.mul_frac.
 pub returns-clause-close : goal.returns-clause-close
 returns-clause-close g c = λ v e b h.
     c.floor_step.ensures.close (v + 2 ^ 9) (omega (arith, b))
-    (signs_within g.E.Enclosure.shown _ v c.args.longitude c.mul_frac.result e h (λ r p. c.mul_frac.ensures.encloses.narrow r p))
+    (signs_within g.E.Enclosure.shown _ v c.args.longitude c.mul_frac.result e h
+    (λ r p. c.mul_frac.ensures.encloses.narrow r p))

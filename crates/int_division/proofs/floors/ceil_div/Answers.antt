@@ -22,4 +22,6 @@ returns-in-None c =
     let n = simp to_z-of_z at c.in-None.ensures in
     let fq : SFits w128 c.whole_quotient.result = search rules in
     let v = simp to_z-of_z at c.whole_quotient.ensures.value in
-    simp to_z-of_z (rw v (least_ceiling c.args.n c.args.d c.requires (by_lt_z (pos 0) c.args.n (λ l. absurd (n (omega (arith, ints, l)))) (λ l. l))))
+    simp to_z-of_z
+    (rw v (least_ceiling c.args.n c.args.d c.requires
+    (by_lt_z (pos 0) c.args.n (λ l. absurd (n (omega (arith, ints, l)))) (λ l. l))))

@@ -9,6 +9,7 @@ returns-then-n-lt0 c =
     let fd = c.ranges.d in
     let fq : SFits w64 c.natural_floor.result = search rules in
     let gn : SFits w64 (negsuc 0 -ℤ c.args.n) = omega (arith, ints, fn) in
-    let gq : SFits w64 (negsuc 0 -ℤ c.natural_floor.result) = omega (arith, ints, fq, c.natural_floor.ensures.natural) in
+    let gq : SFits w64 (negsuc 0 -ℤ c.natural_floor.result) = omega (arith, ints, fq, c.natural_floor.ensures.natural)
+    in
     let f = simp to_z-of_z at c.natural_floor.ensures.floor in
     simp to_z-of_z (floor_below c.args.n c.args.d c.natural_floor.result f)

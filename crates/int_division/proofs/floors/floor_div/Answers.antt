@@ -9,4 +9,5 @@ returns-in-None c =
     let fn = c.ranges.n in
     let fd = c.ranges.d in
     let fq : SFits w128 c.div_euclid.result = search rules in
-    simp to_z-of_z (euclid_floor c.args.n c.args.d c.div_euclid.result c.requires (simp to_z-of_z at c.div_euclid.ensures))
+    simp to_z-of_z (euclid_floor c.args.n c.args.d c.div_euclid.result c.requires
+    (simp to_z-of_z at c.div_euclid.ensures))

@@ -57,7 +57,8 @@ overflow_cast-result c =
     let r = rest_in c.from.result c.from-3.result c.from-2.result k (omega (arith, ints, e3, c.requires.small)) f in
     let g1 = r.0 in
     let g2 = r.1 in
-    simp to_z-of_z (cast_fits (c.from.result -ℤ c.from-2.result *ℤ c.from-3.result) r.2 (omega (arith, ints, r.3, e3, c.requires.small)))
+    simp to_z-of_z (cast_fits (c.from.result -ℤ c.from-2.result *ℤ c.from-3.result) r.2
+    (omega (arith, ints, r.3, e3, c.requires.small)))
 
 pub returns-clause-value : goal.returns-clause-value
 returns-clause-value c =
@@ -75,7 +76,8 @@ returns-clause-value c =
     let r = rest_in c.from.result c.from-3.result c.from-2.result k (omega (arith, ints, e3, c.requires.small)) f in
     let g1 = r.0 in
     let g2 = r.1 in
-    let v : c.from.result -ℤ c.from-2.result *ℤ c.from-3.result ≡ c.args.number -ℤ c.args.times *ℤ c.args.d = rw (e1, e2, e3) refl in
+    let v : c.from.result -ℤ c.from-2.result *ℤ c.from-3.result ≡ c.args.number -ℤ c.args.times *ℤ c.args.d =
+    rw (e1, e2, e3) refl in
     simp to_z-of_z (cast_is (c.from.result -ℤ c.from-2.result *ℤ c.from-3.result) r.2 ∙ v)
 
 pub returns-clause-less : goal.returns-clause-less

@@ -27,7 +27,8 @@ returns c =
     let g1 : SFits w128 (c.from.result *ℤ pos 536870912) = rw e1 t.0 in
     let g2 : SFits w128 (c.from.result *ℤ pos 536870912 +ℤ c.from-2.result) = rw (e1, e2) t.1 in
     let v : IsFloor (c.floor_64-quotient.result *ℤ pos 536870912 +ℤ pos c.last_step-last.result) c.args.n c.args.d =
-    steps_floor c.args.n c.upper_part-part.result c.args.d c.floor_64-quotient.result (pos c.last_step-last.result) (pos c.rest_of-rest.result)
+    steps_floor c.args.n c.upper_part-part.result c.args.d c.floor_64-quotient.result (pos c.last_step-last.result)
+    (pos c.rest_of-rest.result)
     (pos c.low_part.result) p (simp (u, m) at r) l
     (unsigned_divisor _ _ c.args.d c.requires (simp m at s)) in
     let k : IsFloor (c.from.result *ℤ pos 536870912 +ℤ c.from-2.result) c.args.n c.args.d = rw (e1, e2) v in

@@ -6,13 +6,25 @@ pub returns-in_err-x : goal.returns-in_err-x
 returns-in_err-x g c = record { value = rw (c.from_residual.ensures, c.in_err-x.was) (order_first _) }
 
 pub returns-in_err-y : goal.returns-in_err-y
-returns-in_err-y g c = record { value = rw (c.from_residual-in_err-y.ensures, c.in_ok-x.was, c.in_err-y.was) (order_second _ _) }
+returns-in_err-y g c = record {
+  value = rw (c.from_residual-in_err-y.ensures, c.in_ok-x.was, c.in_err-y.was)
+      (order_second _ _);
+}
 
 pub returns-then-is_below : goal.returns-then-is_below
-returns-then-is_below g c = record { value = rw (c.in_ok-x.was, c.in_ok-y.was) (order_below g.I.MachineWord.scale _ _ _ _ (search rules)) }
+returns-then-is_below g c =
+    record { value = rw (c.in_ok-x.was, c.in_ok-y.was) (order_below g.I.MachineWord.scale _ _ _ _ (search rules)) }
 
 pub returns-then-is_below-2 : goal.returns-then-is_below-2
-returns-then-is_below-2 g c = record { value = rw (c.in_ok-x.was, c.in_ok-y.was) (order_open g.I.MachineWord.scale _ _ _ _ (search rules) (search rules)) }
+returns-then-is_below-2 g c =
+    record {
+      value = rw (c.in_ok-x.was, c.in_ok-y.was) (order_open g.I.MachineWord.scale _ _ _ _ (search rules)
+          (search rules));
+    }
 
 pub returns-else-is_below-2 : goal.returns-else-is_below-2
-returns-else-is_below-2 g c = record { value = rw (c.in_ok-x.was, c.in_ok-y.was) (order_above g.I.MachineWord.scale _ _ _ _ (search rules) (search rules)) }
+returns-else-is_below-2 g c =
+    record {
+      value = rw (c.in_ok-x.was, c.in_ok-y.was) (order_above g.I.MachineWord.scale _ _ _ _ (search rules)
+          (search rules));
+    }

@@ -40,7 +40,8 @@ returns-clause-holds g c =
     let j = simp to_z-of_z at c.ceil_div.ensures in
     let k = shows _ _ _ (simp to_z-of_z at c.endpoints_of.ensures.endpoints) in
     let e = simp (c.num.ensures, c.units.ensures.value) at (simp to_z-of_z at c.in_ok-raised.ensures) in
-    constant_encloses g.I.MachineWord.scale (fraction_of c.args.value) c.in_ok-raised.raised _ _ c.denominator-below.result _ e.1
+    constant_encloses g.I.MachineWord.scale (fraction_of c.args.value) c.in_ok-raised.raised _ _
+    c.denominator-below.result _ e.1
     c.denominator-below.ensures.value i j k
 
 pub returns-clause-narrow : goal.returns-clause-narrow
@@ -55,7 +56,8 @@ returns-clause-narrow g c = λ w.
     let j = simp to_z-of_z at c.ceil_div.ensures in
     let k = shows _ _ _ (simp to_z-of_z at c.endpoints_of.ensures.endpoints) in
     let e = simp (c.num.ensures, c.units.ensures.value) at (simp to_z-of_z at c.in_ok-raised.ensures) in
-    constant_narrow g.I.MachineWord.scale (fraction_of c.args.value) w c.in_ok-raised.raised _ _ c.denominator-below.result _ e.1
+    constant_narrow g.I.MachineWord.scale (fraction_of c.args.value) w c.in_ok-raised.raised _ _
+    c.denominator-below.result _ e.1
     c.denominator-below.ensures.value i j k
 
 pub returns-clause-close : goal.returns-clause-close

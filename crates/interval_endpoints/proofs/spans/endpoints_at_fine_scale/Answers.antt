@@ -14,16 +14,36 @@ record AreFiner (scale : Scale) (a b x y : ℤ) : Type 0 where
 finer_hold : (scale : Scale) (a b x y : ℤ) → AreFiner scale a b x y
     → between (at_scale scale a) (at_scale scale b) ⊆ between (units_of_56 x) (units_of_56 y)
 finer_hold coarse a b x y f =
-    record { endpoints = (record { cross = omega (arith, ints, f.low) }, record { cross = omega (arith, ints, f.high) }) }
+    record {
+      endpoints = (
+        record { cross = omega (arith, ints, f.low) },
+        record { cross = omega (arith, ints, f.high) },
+      );
+    }
 finer_hold fine a b x y f =
-    record { endpoints = (record { cross = omega (arith, ints, f.low) }, record { cross = omega (arith, ints, f.high) }) }
+    record {
+      endpoints = (
+        record { cross = omega (arith, ints, f.low) },
+        record { cross = omega (arith, ints, f.high) },
+      );
+    }
 
 finer_held : (scale : Scale) (a b x y : ℤ) → AreFiner scale a b x y
     → between (units_of_56 x) (units_of_56 y) ⊆ between (at_scale scale a) (at_scale scale b)
 finer_held coarse a b x y f =
-    record { endpoints = (record { cross = omega (arith, ints, f.low) }, record { cross = omega (arith, ints, f.high) }) }
+    record {
+      endpoints = (
+        record { cross = omega (arith, ints, f.low) },
+        record { cross = omega (arith, ints, f.high) },
+      );
+    }
 finer_held fine a b x y f =
-    record { endpoints = (record { cross = omega (arith, ints, f.low) }, record { cross = omega (arith, ints, f.high) }) }
+    record {
+      endpoints = (
+        record { cross = omega (arith, ints, f.low) },
+        record { cross = omega (arith, ints, f.high) },
+      );
+    }
 
 finer_order : (scale : Scale) (a b x y : ℤ) → a ≤ℤ b → AreFiner scale a b x y → x ≤ℤ y
 finer_order coarse a b x y o f = omega (arith, ints, f.low, f.high)

@@ -11,7 +11,8 @@ returns-clause-holds g c =
     let fb = c.ranges.hi in
     let fl : SFits w128 c.floor_of_fine-down.result = search rules in
     let fh : SFits w128 c.ceil_of_fine-up.result = search rules in
-    span_encloses g.I.MachineWord.scale _ _ _ _ _ (simp to_z-of_z at c.floor_of_fine-down.ensures.floor) (simp to_z-of_z at c.ceil_of_fine-up.ensures.ceiling)
+    span_encloses g.I.MachineWord.scale _ _ _ _ _ (simp to_z-of_z at c.floor_of_fine-down.ensures.floor)
+    (simp to_z-of_z at c.ceil_of_fine-up.ensures.ceiling)
     (shows _ _ _ (simp to_z-of_z at c.endpoints_of.ensures.endpoints))
 
 pub returns-clause-narrow : goal.returns-clause-narrow
@@ -21,4 +22,5 @@ returns-clause-narrow g c = λ w b h.
     let fl : SFits w128 c.floor_of_fine-down.result = search rules in
     let fh : SFits w128 c.ceil_of_fine-up.result = search rules in
     spanned_narrow g.I.MachineWord.scale w b _ _ _ _ _ (simp to_z-of_z at c.floor_of_fine-down.ensures.floor)
-    (simp to_z-of_z at c.ceil_of_fine-up.ensures.ceiling) (shows _ _ _ (simp to_z-of_z at c.endpoints_of.ensures.endpoints)) h
+    (simp to_z-of_z at c.ceil_of_fine-up.ensures.ceiling)
+    (shows _ _ _ (simp to_z-of_z at c.endpoints_of.ensures.endpoints)) h

@@ -6,7 +6,8 @@ pub returns-in_err-lo : goal.returns-in_err-lo
 returns-in_err-lo g c = record { endpoints = rw c.from_residual.ensures (λ p q. c.in_err-lo.ensures.none refl p) }
 
 pub returns-in_err-hi : goal.returns-in_err-hi
-returns-in_err-hi g c = record { endpoints = rw c.from_residual-in_err-hi.ensures (λ p q. c.in_err-hi.ensures.none refl q) }
+returns-in_err-hi g c =
+    record { endpoints = rw c.from_residual-in_err-hi.ensures (λ p q. c.in_err-hi.ensures.none refl q) }
 
 pub invariant_of-result : goal.invariant_of-result
 invariant_of-result g c =

@@ -14,25 +14,29 @@ pub returns-in_err-a-clause-some : goal.returns-in_err-a-clause-some
 returns-in_err-a-clause-some g c = λ e t.
     let ga : SFits w128 c.wide.result = search rules in
     let n = simp c.wide.ensures.value at (simp to_z-of_z at c.in_err-a.ensures) in
-    absurd (n (let o = (by_negative g.I.MachineWord.scale _ _ _ _ c.args.y.ordered c.requires t).0.second in omega (arith, ints, o)))
+    absurd (n (let o = (by_negative g.I.MachineWord.scale _ _ _ _ c.args.y.ordered c.requires t).0.second in
+    omega (arith, ints, o)))
 
 pub returns-in_err-b-clause-some : goal.returns-in_err-b-clause-some
 returns-in_err-b-clause-some g c = λ e t.
     let gb : SFits w128 c.wide-2.result = search rules in
     let n = simp c.wide-2.ensures.value at (simp to_z-of_z at c.in_err-b.ensures) in
-    absurd (n (let o = (by_negative g.I.MachineWord.scale _ _ _ _ c.args.y.ordered c.requires t).0.first in omega (arith, ints, o)))
+    absurd (n (let o = (by_negative g.I.MachineWord.scale _ _ _ _ c.args.y.ordered c.requires t).0.first in
+    omega (arith, ints, o)))
 
 pub returns-in_err-c-clause-some : goal.returns-in_err-c-clause-some
 returns-in_err-c-clause-some g c = λ e t.
     let gc : SFits w128 c.wide-3.result = search rules in
     let n = simp c.wide-3.ensures.value at (simp to_z-of_z at c.in_err-c.ensures) in
-    absurd (n (let o = (by_negative g.I.MachineWord.scale _ _ _ _ c.args.y.ordered c.requires t).0.fourth in omega (arith, ints, o)))
+    absurd (n (let o = (by_negative g.I.MachineWord.scale _ _ _ _ c.args.y.ordered c.requires t).0.fourth in
+    omega (arith, ints, o)))
 
 pub returns-in_err-d-clause-some : goal.returns-in_err-d-clause-some
 returns-in_err-d-clause-some g c = λ e t.
     let gd : SFits w128 c.wide-4.result = search rules in
     let n = simp c.wide-4.ensures.value at (simp to_z-of_z at c.in_err-d.ensures) in
-    absurd (n (let o = (by_negative g.I.MachineWord.scale _ _ _ _ c.args.y.ordered c.requires t).0.third in omega (arith, ints, o)))
+    absurd (n (let o = (by_negative g.I.MachineWord.scale _ _ _ _ c.args.y.ordered c.requires t).0.third in
+    omega (arith, ints, o)))
 
 pub quotients-requires-clause-dividend : goal.quotients-requires-clause-dividend
 quotients-requires-clause-dividend g c =
@@ -91,21 +95,26 @@ returns-in_err-lo-clause-some g c = λ e t.
     let ga : SFits w128 c.wide.result = search rules in
     let fa : SFits w128 c.in_ok-a.a = search rules in
     let ha = simp to_z-of_z at c.in_ok-a.ensures in
-    let ea : c.in_ok-a.a ≡ pos 0 -ℤ g.I.MachineWord.value c.args.x.hi = omega (arith, ints, ha.1, c.wide.ensures.value) in
+    let ea : c.in_ok-a.a ≡ pos 0 -ℤ g.I.MachineWord.value c.args.x.hi = omega (arith, ints, ha.1, c.wide.ensures.value)
+    in
     let gb : SFits w128 c.wide-2.result = search rules in
     let fb : SFits w128 c.in_ok-b.b = search rules in
     let hb = simp to_z-of_z at c.in_ok-b.ensures in
-    let eb : c.in_ok-b.b ≡ pos 0 -ℤ g.I.MachineWord.value c.args.x.lo = omega (arith, ints, hb.1, c.wide-2.ensures.value) in
+    let eb : c.in_ok-b.b ≡ pos 0 -ℤ g.I.MachineWord.value c.args.x.lo =
+    omega (arith, ints, hb.1, c.wide-2.ensures.value) in
     let gc : SFits w128 c.wide-3.result = search rules in
     let fc : SFits w128 c.in_ok-c.c = search rules in
     let hc = simp to_z-of_z at c.in_ok-c.ensures in
-    let ec : c.in_ok-c.c ≡ pos 0 -ℤ g.I.MachineWord.value c.args.y.hi = omega (arith, ints, hc.1, c.wide-3.ensures.value) in
+    let ec : c.in_ok-c.c ≡ pos 0 -ℤ g.I.MachineWord.value c.args.y.hi =
+    omega (arith, ints, hc.1, c.wide-3.ensures.value) in
     let gd : SFits w128 c.wide-4.result = search rules in
     let fd : SFits w128 c.in_ok-d.d = search rules in
     let hd = simp to_z-of_z at c.in_ok-d.ensures in
-    let ed : c.in_ok-d.d ≡ pos 0 -ℤ g.I.MachineWord.value c.args.y.lo = omega (arith, ints, hd.1, c.wide-4.ensures.value) in
+    let ed : c.in_ok-d.d ≡ pos 0 -ℤ g.I.MachineWord.value c.args.y.lo =
+    omega (arith, ints, hd.1, c.wide-4.ensures.value) in
     let n = simp to_z-of_z at c.in_err-lo.ensures.some in
-    absurd (true≢false (sym (n (rw (ea, eb, ec, ed) (by_negative g.I.MachineWord.scale _ _ _ _ c.args.y.ordered c.requires t).1))))
+    absurd (true≢false
+    (sym (n (rw (ea, eb, ec, ed) (by_negative g.I.MachineWord.scale _ _ _ _ c.args.y.ordered c.requires t).1))))
 
 -- the numbers are the opposites of the endpoints, and the quotients are theirs
 record AreOfOpposites (scale : Scale) (a b c d x y z w lo hi : ℤ) : Type 0 where
@@ -124,19 +133,23 @@ of_opposites g c =
     let ga : SFits w128 c.wide.result = search rules in
     let fa : SFits w128 c.in_ok-a.a = search rules in
     let ha = simp to_z-of_z at c.in_ok-a.ensures in
-    let ea : c.in_ok-a.a ≡ pos 0 -ℤ g.I.MachineWord.value c.args.x.hi = omega (arith, ints, ha.1, c.wide.ensures.value) in
+    let ea : c.in_ok-a.a ≡ pos 0 -ℤ g.I.MachineWord.value c.args.x.hi = omega (arith, ints, ha.1, c.wide.ensures.value)
+    in
     let gb : SFits w128 c.wide-2.result = search rules in
     let fb : SFits w128 c.in_ok-b.b = search rules in
     let hb = simp to_z-of_z at c.in_ok-b.ensures in
-    let eb : c.in_ok-b.b ≡ pos 0 -ℤ g.I.MachineWord.value c.args.x.lo = omega (arith, ints, hb.1, c.wide-2.ensures.value) in
+    let eb : c.in_ok-b.b ≡ pos 0 -ℤ g.I.MachineWord.value c.args.x.lo =
+    omega (arith, ints, hb.1, c.wide-2.ensures.value) in
     let gc : SFits w128 c.wide-3.result = search rules in
     let fc : SFits w128 c.in_ok-c.c = search rules in
     let hc = simp to_z-of_z at c.in_ok-c.ensures in
-    let ec : c.in_ok-c.c ≡ pos 0 -ℤ g.I.MachineWord.value c.args.y.hi = omega (arith, ints, hc.1, c.wide-3.ensures.value) in
+    let ec : c.in_ok-c.c ≡ pos 0 -ℤ g.I.MachineWord.value c.args.y.hi =
+    omega (arith, ints, hc.1, c.wide-3.ensures.value) in
     let gd : SFits w128 c.wide-4.result = search rules in
     let fd : SFits w128 c.in_ok-d.d = search rules in
     let hd = simp to_z-of_z at c.in_ok-d.ensures in
-    let ed : c.in_ok-d.d ≡ pos 0 -ℤ g.I.MachineWord.value c.args.y.lo = omega (arith, ints, hd.1, c.wide-4.ensures.value) in
+    let ed : c.in_ok-d.d ≡ pos 0 -ℤ g.I.MachineWord.value c.args.y.lo =
+    omega (arith, ints, hd.1, c.wide-4.ensures.value) in
     let fl : SFits w128 c.in_ok-lo.lo = search rules in
     let fh : SFits w128 c.in_ok-lo.hi = search rules in
     let q = simp to_z-of_z at c.in_ok-lo.ensures.value in
@@ -163,7 +176,8 @@ returns-clause-close g c =
     let d = g.I.MachineWord.value c.args.y.lo in
     let f = g.I.MachineWord.value c.args.y.hi in
     when_there _ _ _ (λ z. (m : ℕ) → 0 < m → (pos m ≤ℤ d) ⊎ (f ≤ℤ (pos 0 -ℤ pos m)) → ((z -ℤ pos 2) *ℤ (pos m *ℤ pos m))
-    ≤ℤ (unit g.I.MachineWord.scale *ℤ ((y -ℤ x) *ℤ pos m) +ℤ unit g.I.MachineWord.scale *ℤ (pos (size_between x y) *ℤ (f -ℤ d)))) e
+    ≤ℤ (unit g.I.MachineWord.scale *ℤ ((y -ℤ x) *ℤ pos m) +ℤ unit
+    g.I.MachineWord.scale *ℤ (pos (size_between x y) *ℤ (f -ℤ d)))) e
     (negative_close g.I.MachineWord.scale x y d f _ _ c.args.y.ordered c.requires
     (rw (o.first, o.last, o.least, o.greatest) at o.quotients))
 

@@ -124,7 +124,8 @@ returns-clause-close g c =
     let d = g.I.MachineWord.value c.args.y.lo in
     let f = g.I.MachineWord.value c.args.y.hi in
     when_there _ _ _ (λ z. (m : ℕ) → 0 < m → (pos m ≤ℤ d) ⊎ (f ≤ℤ (pos 0 -ℤ pos m)) → ((z -ℤ pos 2) *ℤ (pos m *ℤ pos m))
-    ≤ℤ (unit g.I.MachineWord.scale *ℤ ((y -ℤ x) *ℤ pos m) +ℤ unit g.I.MachineWord.scale *ℤ (pos (size_between x y) *ℤ (f -ℤ d)))) e
+    ≤ℤ (unit g.I.MachineWord.scale *ℤ ((y -ℤ x) *ℤ pos m) +ℤ unit
+    g.I.MachineWord.scale *ℤ (pos (size_between x y) *ℤ (f -ℤ d)))) e
     (positive_close g.I.MachineWord.scale x y d f _ _ c.args.y.ordered c.requires q)
 
 pub returns-clause-some : goal.returns-clause-some

@@ -11,7 +11,8 @@ quotient_down-requires-clause-divisor g c =
     let fc = c.ranges.c in
     let fd = c.ranges.d in
     let fp : SFits w128 c.least_by.result = search rules in
-    simp to_z-of_z (first_divisor_positive _ _ _ _ c.requires.positive c.requires.divisor (simp to_z-of_z at c.least_by.ensures))
+    simp to_z-of_z (first_divisor_positive _ _ _ _ c.requires.positive c.requires.divisor
+    (simp to_z-of_z at c.least_by.ensures))
 
 pub quotient_up-requires-clause-divisor : goal.quotient_up-requires-clause-divisor
 quotient_up-requires-clause-divisor g c =
@@ -19,7 +20,8 @@ quotient_up-requires-clause-divisor g c =
     let fc = c.ranges.c in
     let fd = c.ranges.d in
     let fq : SFits w128 c.greatest_by.result = search rules in
-    simp to_z-of_z (divisor_positive _ _ _ _ c.requires.positive c.requires.divisor (simp to_z-of_z at c.greatest_by.ensures))
+    simp to_z-of_z (divisor_positive _ _ _ _ c.requires.positive c.requires.divisor
+    (simp to_z-of_z at c.greatest_by.ensures))
 
 pub returns-in_err-lo-clause-some : goal.returns-in_err-lo-clause-some
 returns-in_err-lo-clause-some g c = λ r.
@@ -55,5 +57,6 @@ returns-clause-value g c =
     let fh : SFits w128 c.in_ok-hi.hi = search rules in
     let i = simp to_z-of_z at c.in_ok-lo.ensures.value in
     let j = simp to_z-of_z at c.in_ok-hi.ensures.value in
-    simp to_z-of_z (quotients_are g.I.MachineWord.scale c.args.a c.args.b c.args.c c.args.d _ _ _ _ c.requires.dividend c.requires.positive c.requires.divisor l
+    simp to_z-of_z (quotients_are g.I.MachineWord.scale c.args.a c.args.b c.args.c c.args.d _ _ _ _ c.requires.dividend
+    c.requires.positive c.requires.divisor l
     m i j)

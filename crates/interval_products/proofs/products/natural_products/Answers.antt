@@ -16,4 +16,5 @@ returns-clause-corners g c =
     let fg : SFits w128 c.in_ok-greatest.greatest = search rules in
     let p = c.in_ok-least.ensures.product in
     let q = c.in_ok-greatest.ensures.product in
-    simp to_z-of_z (natural_corners _ _ _ _ _ _ c.args.x.ordered c.args.y.ordered c.requires.first c.requires.second p q)
+    simp to_z-of_z (natural_corners _ _ _ _ _ _ c.args.x.ordered c.args.y.ordered c.requires.first c.requires.second p
+    q)

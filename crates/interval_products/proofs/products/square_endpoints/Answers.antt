@@ -17,11 +17,13 @@ pub returns-in_err-x-clause-narrow : goal.returns-in_err-x-clause-narrow
 returns-in_err-x-clause-narrow g c = λ w a h. square_of_all g.I.MachineWord.scale w a _ (rw c.in_err-x.was at h)
 
 pub returns-in_err-low-clause-narrow : goal.returns-in_err-low-clause-narrow
-returns-in_err-low-clause-narrow g c = λ w a h. square_overflow g.I.MachineWord.scale w a _ _ _ c.in_ok-x.x.ordered (rw c.in_ok-x.was at h)
+returns-in_err-low-clause-narrow g c = λ w a h. square_overflow g.I.MachineWord.scale w a _ _ _ c.in_ok-x.x.ordered
+    (rw c.in_ok-x.was at h)
     (λ t. c.in_err-low.ensures.none refl t.first)
 
 pub returns-in_err-high-clause-narrow : goal.returns-in_err-high-clause-narrow
-returns-in_err-high-clause-narrow g c = λ w a h. square_overflow g.I.MachineWord.scale w a _ _ _ c.in_ok-x.x.ordered (rw c.in_ok-x.was at h)
+returns-in_err-high-clause-narrow g c = λ w a h. square_overflow g.I.MachineWord.scale w a _ _ _ c.in_ok-x.x.ordered
+    (rw c.in_ok-x.was at h)
     (λ t. c.in_err-high.ensures.none refl t.fourth)
 
 pub returns-in_err-low-clause-some : goal.returns-in_err-low-clause-some
@@ -44,7 +46,8 @@ endpoints_of-requires g c =
     let e' = c.in_ok-high.ensures.product in
     let k = simp e at (simp to_z-of_z at c.max.ensures.self_bound) in
     let k' = simp e' at (simp to_z-of_z at c.max.ensures.other_bound) in
-    let n = simp (c.wide.ensures.value, c.wide-2.ensures.value) at (simp to_z-of_z at c.least_square-least.ensures.value) in
+    let n = simp (c.wide.ensures.value, c.wide-2.ensures.value) at
+    (simp to_z-of_z at c.least_square-least.ensures.value) in
     let i = simp to_z-of_z at c.floor_product.ensures.floor in
     let j = simp to_z-of_z at c.ceil_product.ensures.ceiling in
     let o = outward_order _ _ _ _ _ (squares_order _ _ _ _ n k k') i j (unit_positive g.I.MachineWord.scale) in
@@ -59,7 +62,8 @@ record AreSquared (scale : Scale) (a b n m lo hi : ℤ) : Type 0 where
   low : IsFloor lo n (unit scale)
   high : IsCeiling hi m (unit scale)
 
-squared : (g : _) (c : goal.After-endpoints_of g) → AreSquared g.I.MachineWord.scale (g.I.MachineWord.value c.in_ok-x.x.lo)
+squared : (g : _) (c : goal.After-endpoints_of g)
+    → AreSquared g.I.MachineWord.scale (g.I.MachineWord.value c.in_ok-x.x.lo)
     (g.I.MachineWord.value c.in_ok-x.x.hi) c.least_square-least.result c.max.result c.floor_product.result
     c.ceil_product.result
 squared g c =
@@ -75,7 +79,8 @@ squared g c =
     let e' = c.in_ok-high.ensures.product in
     let k = simp e at (simp to_z-of_z at c.max.ensures.self_bound) in
     let k' = simp e' at (simp to_z-of_z at c.max.ensures.other_bound) in
-    let n = simp (c.wide.ensures.value, c.wide-2.ensures.value) at (simp to_z-of_z at c.least_square-least.ensures.value) in
+    let n = simp (c.wide.ensures.value, c.wide-2.ensures.value) at
+    (simp to_z-of_z at c.least_square-least.ensures.value) in
     let i = simp to_z-of_z at c.floor_product.ensures.floor in
     let j = simp to_z-of_z at c.ceil_product.ensures.ceiling in
     let v = simp to_z-of_z at c.max.ensures.value in
@@ -117,7 +122,8 @@ returns-clause-close g c =
     let a = g.I.MachineWord.value c.in_ok-x.x.lo in
     let b = g.I.MachineWord.value c.in_ok-x.x.hi in
     rw c.in_ok-x.was
-    (when_there _ _ _ (λ z. ((z -ℤ pos 2) *ℤ unit g.I.MachineWord.scale) ≤ℤ (pos 2 *ℤ (pos (size_between a b) *ℤ (b -ℤ a)))) s
+    (when_there _ _ _ (λ z. ((z -ℤ pos 2) *ℤ unit g.I.MachineWord.scale)
+    ≤ℤ (pos 2 *ℤ (pos (size_between a b) *ℤ (b -ℤ a)))) s
     (square_close g.I.MachineWord.scale a b _ _ _ _ c.in_ok-x.x.ordered t.least t.best t.low t.high))
 
 pub returns-clause-some : goal.returns-clause-some

@@ -10,7 +10,8 @@ use Rattle.interval_products.proofs.Closeness.{root_close}
 use Rattle.interval_products.proofs.roots.root_endpoints.Goals as goal
 
 pub returns-in_err-x-clause-narrow : goal.returns-in_err-x-clause-narrow
-returns-in_err-x-clause-narrow g c = λ w a h. root_of_all w (limits_on g.I.MachineWord.scale) a _ (rw c.in_err-x.was at h)
+returns-in_err-x-clause-narrow g c = λ w a h. root_of_all w (limits_on g.I.MachineWord.scale) a _
+    (rw c.in_err-x.was at h)
 
 pub returns-in_err-lo-clause-narrow : goal.returns-in_err-lo-clause-narrow
 returns-in_err-lo-clause-narrow g c = λ w a h.
@@ -18,7 +19,8 @@ returns-in_err-lo-clause-narrow g c = λ w a h.
     (λ l. c.in_err-lo.ensures.none refl (lesser_root g.I.MachineWord.scale _ _ c.in_ok-x.x.ordered l))
 
 pub returns-in_err-hi-clause-narrow : goal.returns-in_err-hi-clause-narrow
-returns-in_err-hi-clause-narrow g c = λ w a h. root_overflow g.I.MachineWord.scale w a _ _ _ (rw c.in_ok-x.was at h) (λ l. c.in_err-hi.ensures.none refl l)
+returns-in_err-hi-clause-narrow g c = λ w a h. root_overflow g.I.MachineWord.scale w a _ _ _ (rw c.in_ok-x.was at h)
+    (λ l. c.in_err-hi.ensures.none refl l)
 
 pub returns-in_err-lo-clause-some : goal.returns-in_err-lo-clause-some
 returns-in_err-lo-clause-some g c = rw c.in_ok-x.was (λ e l. absurd
@@ -33,15 +35,18 @@ endpoints_of-requires g c =
     let fs : SFits w128 c.in_ok-hi.hi = search rules in
     let l = c.in_ok-lo.ensures in
     let m = c.in_ok-hi.ensures in
-    simp to_z-of_z (roots_order g.I.MachineWord.scale _ _ c.in_ok-lo.lo c.in_ok-hi.hi c.in_ok-x.x.ordered l.natural m.natural l.square m.square)
+    simp to_z-of_z (roots_order g.I.MachineWord.scale _ _ c.in_ok-lo.lo c.in_ok-hi.hi c.in_ok-x.x.ordered l.natural
+    m.natural l.square m.square)
 
-are_roots : (g : _) (c : goal.After-endpoints_of g) → AreRoots g.I.MachineWord.scale (g.I.MachineWord.value c.in_ok-x.x.lo) (g.I.MachineWord.value c.in_ok-x.x.hi)
+are_roots : (g : _) (c : goal.After-endpoints_of g)
+    → AreRoots g.I.MachineWord.scale (g.I.MachineWord.value c.in_ok-x.x.lo) (g.I.MachineWord.value c.in_ok-x.x.hi)
     c.in_ok-lo.lo c.in_ok-hi.hi
 are_roots g c =
     let l = c.in_ok-lo.ensures in
     let m = c.in_ok-hi.ensures in
     record {
-      ordered = roots_order g.I.MachineWord.scale _ _ c.in_ok-lo.lo c.in_ok-hi.hi c.in_ok-x.x.ordered l.natural m.natural l.square m.square;
+      ordered = roots_order g.I.MachineWord.scale _ _ c.in_ok-lo.lo c.in_ok-hi.hi c.in_ok-x.x.ordered l.natural
+          m.natural l.square m.square;
       natural = l.natural;
       above = l.close;
       below = m.close;
@@ -54,7 +59,8 @@ returns-clause-holds g c = λ n d.
     let l = c.in_ok-lo.ensures in
     let m = c.in_ok-hi.ensures in
     let e = simp to_z-of_z at c.endpoints_of.ensures.endpoints in
-    rw c.in_ok-x.was (root_holds g.I.MachineWord.scale n _ _ c.in_ok-lo.lo c.in_ok-hi.hi _ d c.in_ok-x.x.ordered l.natural m.natural l.square m.square
+    rw c.in_ok-x.was (root_holds g.I.MachineWord.scale n _ _ c.in_ok-lo.lo c.in_ok-hi.hi _ d c.in_ok-x.x.ordered
+    l.natural m.natural l.square m.square
     (shows _ _ _ e))
 
 pub returns-clause-narrow : goal.returns-clause-narrow
@@ -62,7 +68,8 @@ returns-clause-narrow g c = λ w a h.
     let fr : SFits w128 c.in_ok-lo.lo = search rules in
     let fs : SFits w128 c.in_ok-hi.hi = search rules in
     let e = simp to_z-of_z at c.endpoints_of.ensures.endpoints in
-    root_narrow g.I.MachineWord.scale w a _ _ c.in_ok-lo.lo c.in_ok-hi.hi _ (are_roots g c) (shows _ _ _ e) (rw c.in_ok-x.was at h)
+    root_narrow g.I.MachineWord.scale w a _ _ c.in_ok-lo.lo c.in_ok-hi.hi _ (are_roots g c) (shows _ _ _ e)
+    (rw c.in_ok-x.was at h)
 
 pub returns-clause-close : goal.returns-clause-close
 returns-clause-close g c =

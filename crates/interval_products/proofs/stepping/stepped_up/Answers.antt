@@ -7,7 +7,8 @@ use Rattle.interval_products.proofs.TwoSteps.{checked_some, step_up, ceiling_fit
 use Rattle.interval_products.proofs.stepping.stepped_up.Goals as goal
 
 -- the sum is the quotient
-sum_is : (c : goal.After-checked_add) → IsCeiling (c.in_ok-whole.whole +ℤ c.ceil_div.result) (c.args.n *ℤ pos (2 ^ 56)) c.args.d
+sum_is : (c : goal.After-checked_add) → IsCeiling (c.in_ok-whole.whole +ℤ c.ceil_div.result) (c.args.n *ℤ pos (2 ^ 56))
+    c.args.d
 sum_is c =
     let fn = c.ranges.n in
     let fd = c.ranges.d in
@@ -26,4 +27,5 @@ pub returns-clause-some : goal.returns-clause-some
 returns-clause-some c = λ r.
     let fw : SFits w128 c.in_ok-whole.whole = search rules in
     let ff : SFits w128 c.ceil_div.result = search rules in
-    checked_some c.checked_add.result _ _ (simp to_z-of_z at c.checked_add.ensures) (ceiling_fits _ _ _ c.requires r (sum_is c))
+    checked_some c.checked_add.result _ _ (simp to_z-of_z at c.checked_add.ensures)
+    (ceiling_fits _ _ _ c.requires r (sum_is c))

@@ -8,5 +8,6 @@ use Rattle.jobs_core.proofs.maps.map_lines.Goals as goal
 pub returns : goal.returns
 returns g c = record {
   right = IfOk-weaker c.map_places.result _ _
-      (λ all h. covers_zip (λ row o. IsRightForRow WRITTEN row (line_outcome o)) _ c.args.rows.now all.items (λ i d y p. p d) h) c.map_places.ensures.covers;
+      (λ all h. covers_zip (λ row o. IsRightForRow WRITTEN row (line_outcome o)) _ c.args.rows.now all.items
+      (λ i d y p. p d) h) c.map_places.ensures.covers;
 }

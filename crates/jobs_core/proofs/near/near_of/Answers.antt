@@ -5,7 +5,8 @@ use Rattle.jobs_core.proofs.near.near_of.Goals as goal
 
 pub returns-clause-pair : goal.returns-clause-pair
 returns-clause-pair c =
-    let day : c.args.first.day +ℤ to_z w16 (of_z w16 c.in_ok-days.days) ≡ c.args.pair.0.day = omega (arith, ints, c.in_ok-days.ensures) in
+    let day : c.args.first.day +ℤ to_z w16 (of_z w16 c.in_ok-days.days) ≡ c.args.pair.0.day =
+    omega (arith, ints, c.in_ok-days.ensures) in
     let value : to_z w32 (of_z w32 c.in_ok-value.value) ≡ c.args.pair.1 = omega (arith, ints, c.in_ok-value.ensures) in
     let kind : c.kind-2.result ≡ c.args.pair.0.kind = cc (c.in_ok-fact.ensures.kind, c.kind.ensures) in
     let place : c.place-2.result ≡ c.args.pair.0.place = cc (c.in_ok-fact.ensures.place, c.place.ensures) in
@@ -17,4 +18,5 @@ returns-clause-near c =
     = omega (arith, ints, c.in_ok-days.ensures, c.day.ensures) in
     let kind : c.kind-2.result ≡ c.kind.result = cc (c.in_ok-fact.ensures.kind) in
     let place : c.place-2.result ≡ c.place.result = cc (c.in_ok-fact.ensures.place) in
-    same_fact c.kind.result c.kind-2.result c.place.result c.place-2.result _ _ kind place day (c.in_ok-fact.ensures.some.0 refl)
+    same_fact c.kind.result c.kind-2.result c.place.result c.place-2.result _ _ kind place day
+    (c.in_ok-fact.ensures.some.0 refl)

@@ -9,4 +9,7 @@ returns c =
     let kind = rw c.unwrap-fact.ensures at c.new.ensures.kind in
     let place = rw c.unwrap-fact.ensures at c.new.ensures.place in
     let day = rw c.unwrap-fact.ensures at c.new.ensures.day in
-    record { pair = same_pair _ (near_pair c.args.first c.args.near) kind place (omega (arith, ints, day, c.day_of.ensures)) (omega (arith, ints, c.from.ensures)) }
+    record {
+      pair = same_pair _ (near_pair c.args.first c.args.near) kind place
+          (omega (arith, ints, day, c.day_of.ensures)) (omega (arith, ints, c.from.ensures));
+    }

@@ -9,7 +9,10 @@ pub returns-in-Ok : goal.returns-in-Ok
 returns-in-Ok g c =
     let right = right_result WRITTEN c.args.request.now c.in-Ok.resolved _ _ _ c.finish.ensures.stand
     (rw c.new-asking.ensures.empty refl) refl c.in-Ok.ensures.comes in
-    record { right = IfOk-weaker c.found_by.result _ _ (λ outcome same. rw same (rw c.finish.ensures.pairs right)) c.found_by.ensures.found }
+    record {
+      right = IfOk-weaker c.found_by.result _ _ (λ outcome same. rw same (rw c.finish.ensures.pairs right))
+          c.found_by.ensures.found;
+    }
 
 pub returns-in_ok-new-in-Err : goal.returns-in_ok-new-in-Err
 returns-in_ok-new-in-Err g c =

@@ -8,8 +8,10 @@ pub returns : goal.returns
 returns g c = record {
   rows = IfOk-weaker c.map_places.result _ _
       (λ all h. rows_mapped (λ line. line.now) c.args.lines.now all.items
-      (covers_zip (λ line row. IsRowOf line.now row) _ c.args.lines.now all.items (λ i d y p. p d) h)) c.map_places.ensures.covers;
+      (covers_zip (λ line row. IsRowOf line.now row) _ c.args.lines.now all.items (λ i d y p. p d) h))
+      c.map_places.ensures.covers;
   resolvable = IfOk-weaker c.map_places.result _ _
       (λ all h. rows_resolvable (λ line. line.now) c.args.lines.now all.items
-      (covers_zip (λ line row. IsRowOf line.now row) _ c.args.lines.now all.items (λ i d y p. p d) h)) c.map_places.ensures.covers;
+      (covers_zip (λ line row. IsRowOf line.now row) _ c.args.lines.now all.items (λ i d y p. p d) h))
+      c.map_places.ensures.covers;
 }

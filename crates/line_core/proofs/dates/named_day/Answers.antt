@@ -8,7 +8,8 @@ pub day_at-requires-in-Korean-clause-askable : goal.day_at-requires-in-Korean-cl
 day_at-requires-in-Korean-clause-askable g c = korean_askable c.args.date.now (rw c.in-Korean.is at c.requires.askable)
 
 pub day_at-requires-in-Japanese-clause-askable : goal.day_at-requires-in-Japanese-clause-askable
-day_at-requires-in-Japanese-clause-askable g c = japanese_askable c.args.date.now (rw c.in-Japanese.is at c.requires.askable)
+day_at-requires-in-Japanese-clause-askable g c = japanese_askable c.args.date.now
+    (rw c.in-Japanese.is at c.requires.askable)
 
 pub returns-in-Persian : goal.returns-in-Persian
 returns-in-Persian g c = record { comes = rw c.in-Persian.is c.day_by.ensures.day }

@@ -12,10 +12,14 @@ returns-in_err-values c =
     let spells = rw (c.in-Some.is, parts) at c.loop-rest.invariant.spells in
     record {
       fields = rw c.from_residual.ensures (λ calendar.
-          fails c.loop-rest.count c.loop-rest.values c.args.date.now c.cut_part.result.0.now c.cut_part.result.1 calendar c.in_err-values.ensures.number spells);
+          fails c.loop-rest.count c.loop-rest.values c.args.date.now c.cut_part.result.0.now c.cut_part.result.1
+          calendar c.in_err-values.ensures.number spells);
     }
 
 pub returns : goal.returns
 returns c =
     let spells = rw c.in_default.is at c.loop-rest.invariant.spells in
-    record { fields = λ calendar. spelled c.loop-rest.count c.loop-rest.values c.args.date.now calendar c.loop-rest.invariant.few spells }
+    record {
+      fields = λ calendar. spelled c.loop-rest.count c.loop-rest.values c.args.date.now calendar
+          c.loop-rest.invariant.few spells;
+    }

@@ -7,7 +7,8 @@ use Rattle.line_core.proofs.fields.spelled_fields.Given as goal
 -- what is read and what is left spell the same fields
 abbrev pub invariant-loop-rest : goal.invariant-loop-rest
 invariant-loop-rest l = record {
-  spells : followed l.count l.values (numbers_of (parts_left l.rest)) ≡ followed 0 no_values (numbers_of (parts_of l.date));
+  spells : followed l.count l.values (numbers_of (parts_left l.rest)) ≡ followed 0 no_values
+      (numbers_of (parts_of l.date));
   few : l.count ≤ 5;
   five : length l.values ≡ 5;
 }

@@ -20,4 +20,7 @@ returns c =
     let small = product_size c.from.result c.from-2.result (omega (arith, ints)) (omega (arith, ints)) in
     let h : SFits w128 (c.from.result *ℤ c.from-2.result) = omega (arith, ints, small) in
     let same = simp to_z-of_z at c.from.ensures in
-    record { weighed = simp to_z-of_z (rw (same, c.from-2.ensures, c.field.ensures.field) refl); small = simp to_z-of_z small }
+    record {
+      weighed = simp to_z-of_z (rw (same, c.from-2.ensures, c.field.ensures.field) refl);
+      small = simp to_z-of_z small;
+    }

@@ -10,5 +10,6 @@ returns c =
     let fm : SFits w32 c.from.result = search rules in
     let fd : SFits w32 c.from-2.result = search rules in
     let date = rw c.unwrap-date.ensures at (simp to_z-of_z at c.from_fixed.ensures.date) in
-    let fields = fields_of_date c.args.day c.unwrap-date.result.year _ _ date (omega (arith, ints, fy)) (omega (arith, ints, fy)) in
+    let fields = fields_of_date c.args.day c.unwrap-date.result.year _ _ date (omega (arith, ints, fy))
+    (omega (arith, ints, fy)) in
     record { fields = simp to_z-of_z (rw (c.from.ensures, c.from-2.ensures, fields) refl) }

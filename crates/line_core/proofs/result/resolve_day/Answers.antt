@@ -9,7 +9,10 @@ pub resolve_within-requires : goal.resolve_within-requires
 resolve_within-requires g c =
     let fits : SFits w64 c.args.day = c.ranges.day in
     let range = rw c.reach_of.ensures.reach at (simp to_z-of_z at c.if-is_within.ensures.within) in
-    record { reached = simp to_z-of_z (later_days c.args.version c.args.request.now.from c.args.request.now.to c.args.day (sym range)) }
+    record {
+      reached = simp to_z-of_z (later_days c.args.version c.args.request.now.from c.args.request.now.to
+          c.args.day (sym range));
+    }
 
 pub returns-then-is_within : goal.returns-then-is_within
 unfolding result_of_day

@@ -8,12 +8,18 @@ use Rattle.line_core.proofs.result.resolve_within.Goals as goal
 pub confirm-requires : goal.confirm-requires
 confirm-requires g c =
     let fits : SFits w64 c.args.day = c.ranges.day in
-    record { told = simp to_z-of_z (shown_told c.args.request.now.from c.args.request.now.to c.args.day c.requires.reached) }
+    record {
+      told = simp to_z-of_z (shown_told c.args.request.now.from c.args.request.now.to c.args.day
+          c.requires.reached);
+    }
 
 pub resolve_on-requires : goal.resolve_on-requires
 resolve_on-requires g c =
     let fits : SFits w64 c.args.day = c.ranges.day in
-    record { told = simp to_z-of_z (shown_told c.args.request.now.from c.args.request.now.to c.args.day c.requires.reached) }
+    record {
+      told = simp to_z-of_z (shown_told c.args.request.now.from c.args.request.now.to c.args.day
+          c.requires.reached);
+    }
 
 pub returns-then-not-row : goal.returns-then-not-row
 unfolding result_within

@@ -5,7 +5,8 @@ use Rattle.book_model.specs.sky.Moon.{lunar_angles_of}
 use Rattle.sun_core.specs.Daily.{in_centuries}
 use Rattle.sun_core.proofs.Measured.{days_of}
 use Rattle.moon_core.specs.Widths.{days_and, latitude_bound}
-use Rattle.moon_core.proofs.TermWidths.{angles_close, anomaly_beside, argument_beside, days_beside, longitude_beside, terms_beside}
+use Rattle.moon_core.proofs.TermWidths.{angles_close, anomaly_beside, argument_beside, days_beside, longitude_beside}
+use Rattle.moon_core.proofs.TermWidths.{terms_beside}
 use Rattle.moon_core.proofs.latitudes.millionths.Goals as goal
 
 pub returns-clause-holds : goal.returns-clause-holds

@@ -16,10 +16,12 @@ returns g c = record {
   leads =
       answer_follows g.E.Enclosure.shown moon_of c.args.t _ _ c.wrap_step.result
       (λ w x h.
-      by_dynamical x (λ v. cell MoonWrap (multiples 360) (moon_longitude_of v) (λ q. answer (remainder 360 (moon_longitude_of v) q)))
+      by_dynamical x (λ v. cell MoonWrap (multiples 360) (moon_longitude_of v)
+      (λ q. answer (remainder 360 (moon_longitude_of v) q)))
       (c.in_ok-moment.ensures.leads w x h)
       (λ d r.
-      let days = c.sub-days.ensures.encloses.holds w d (constant (fraction_of NOON_2000)) r (c.from_frac.ensures.encloses.holds w r.deep) in
+      let days = c.sub-days.ensures.encloses.holds w d (constant (fraction_of NOON_2000)) r
+      (c.from_frac.ensures.encloses.holds w r.deep) in
       c.wrap_step.ensures.leads w (moon_longitude_of (in_centuries (subtract d (constant (fraction_of NOON_2000)))))
       (c.longitude_on.ensures.holds w (subtract d (constant (fraction_of NOON_2000))) days)));
 }

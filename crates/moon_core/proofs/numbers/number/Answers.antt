@@ -3,7 +3,8 @@ use Rattle.std.proofs.lemmas.Int.{ints}
 use Rattle.book_model.specs.sky.Phases.{number_of_moon}
 use Rattle.book_model.proofs.Leads.{leads_on, leaf_within}
 use Rattle.moon_core.specs.LinearModels.{number_by, number_of_phase}
-use Rattle.moon_core.proofs.PhaseRanges.{number_found, late_found, within_world, dated_from, dated_to, near_low, near_high}
+use Rattle.moon_core.proofs.PhaseRanges.{number_found, late_found, within_world, dated_from, dated_to, near_low}
+use Rattle.moon_core.proofs.PhaseRanges.{near_high}
 use Rattle.moon_core.proofs.numbers.number.Goals as goal
 
 pub returns-clause-leads : goal.returns-clause-leads
@@ -16,25 +17,29 @@ pub returns-clause-low : goal.returns-clause-low
 returns-clause-low g c =
     let shown = g.E.Enclosure.shown in
     let p = g.E.Enclosure.proper in
-    near_low _ (number_found shown p c.args.t c.number_after.result (returns-clause-leads g c _ _ (within_world shown p c.args.t)))
+    near_low _ (number_found shown p c.args.t c.number_after.result
+    (returns-clause-leads g c _ _ (within_world shown p c.args.t)))
 
 pub returns-clause-high : goal.returns-clause-high
 returns-clause-high g c =
     let shown = g.E.Enclosure.shown in
     let p = g.E.Enclosure.proper in
-    near_high _ (number_found shown p c.args.t c.number_after.result (returns-clause-leads g c _ _ (within_world shown p c.args.t)))
+    near_high _ (number_found shown p c.args.t c.number_after.result
+    (returns-clause-leads g c _ _ (within_world shown p c.args.t)))
 
 pub returns-clause-from : goal.returns-clause-from
 returns-clause-from g c =
     let shown = g.E.Enclosure.shown in
     let p = g.E.Enclosure.proper in
-    dated_from _ (number_found shown p c.args.t c.number_after.result (returns-clause-leads g c _ _ (within_world shown p c.args.t)))
+    dated_from _ (number_found shown p c.args.t c.number_after.result
+    (returns-clause-leads g c _ _ (within_world shown p c.args.t)))
 
 pub returns-clause-to : goal.returns-clause-to
 returns-clause-to g c =
     let shown = g.E.Enclosure.shown in
     let p = g.E.Enclosure.proper in
-    dated_to _ (number_found shown p c.args.t c.number_after.result (returns-clause-leads g c _ _ (within_world shown p c.args.t)))
+    dated_to _ (number_found shown p c.args.t c.number_after.result
+    (returns-clause-leads g c _ _ (within_world shown p c.args.t)))
 
 pub returns-clause-late : goal.returns-clause-late
 returns-clause-late g c = λ v h.

@@ -9,4 +9,5 @@ returns-clause-leads g c = λ w x y h k.
     leads_on _ d (c.number_of_phase.ensures.leads w x _ h (leaf_within d))
 
 pub returns-clause-close : goal.returns-clause-close
-returns-clause-close g c = λ v e b m h. c.number_of_phase.ensures.close v e b m (c.in_ok-degrees.ensures.measured v e b h)
+returns-clause-close g c = λ v e b m h. c.number_of_phase.ensures.close v e b m
+    (c.in_ok-degrees.ensures.measured v e b h)

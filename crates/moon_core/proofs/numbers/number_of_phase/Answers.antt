@@ -11,5 +11,6 @@ returns-clause-leads g c = λ w x y h k.
 pub returns-clause-close : goal.returns-clause-close
 returns-clause-close g c = λ v e b m p.
     c.nearest_moon.ensures.close (v + 2 ^ 30) e (omega (arith, b))
-    (number_within g.E.Enclosure.shown _ v c.args.months c.args.degrees c.mul_frac.result c.sub.result e m p (λ r x. c.mul_frac.ensures.encloses.narrow r x)
+    (number_within g.E.Enclosure.shown _ v c.args.months c.args.degrees c.mul_frac.result c.sub.result e m p
+    (λ r x. c.mul_frac.ensures.encloses.narrow r x)
     (λ r x z. c.sub.ensures.encloses.narrow r x z))

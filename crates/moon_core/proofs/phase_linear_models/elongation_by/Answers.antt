@@ -10,4 +10,6 @@ returns-clause-leads g c =
     (λ w x h.
     let m = c.in_ok-there.ensures.leads w x h in
     let s = c.in_ok-longitude.ensures.leads w x h in
-    leads_on _ m (leads_on _ s (c.within_turn.ensures.leads w _ (c.sub.ensures.encloses.holds w _ _ (leaf_within m) (leaf_within s)))))
+    leads_on _ m
+    (leads_on _ s
+    (c.within_turn.ensures.leads w _ (c.sub.ensures.encloses.holds w _ _ (leaf_within m) (leaf_within s)))))

@@ -10,7 +10,9 @@ unfolding elongation_of
 returns-clause-leads g c = λ w x h.
     let m = c.in_ok-there.ensures.leads w x h in
     let s = c.in_ok-longitude.ensures.leads w x h in
-    leads_on _ m (leads_on _ s (c.within_turn.ensures.leads w _ (c.sub.ensures.encloses.holds w _ _ (leaf_within m) (leaf_within s))))
+    leads_on _ m
+    (leads_on _ s
+    (c.within_turn.ensures.leads w _ (c.sub.ensures.encloses.holds w _ _ (leaf_within m) (leaf_within s))))
 
 pub returns-clause-open : goal.returns-clause-open
 returns-clause-open g c = c.within_turn.ensures.elsewhere _
@@ -19,7 +21,8 @@ pub returns-clause-in_table : goal.returns-clause-in_table
 returns-clause-in_table g c =
     let shown = g.E.Enclosure.shown in
     let p = g.E.Enclosure.proper in
-    elongation_found shown p c.args.t c.within_turn.result (returns-clause-leads g c _ _ (within_world shown p c.args.t))
+    elongation_found shown p c.args.t c.within_turn.result
+    (returns-clause-leads g c _ _ (within_world shown p c.args.t))
 
 pub returns-clause-measured : goal.returns-clause-measured
 returns-clause-measured g c = λ v e b h.

@@ -22,7 +22,8 @@ returns-in_err-by_longitudes-clause-early g c = λ z.
     rw (fails.1, fails.2) (open_is_early _ _ c.in_err-by_longitudes.ensures.open)
 
 pub returns-clause-measured : goal.returns-clause-measured
-returns-clause-measured g c = λ v e b h. c.corrected.ensures.measured v e b (c.in_ok-by_longitudes.ensures.measured v e (omega (arith, b)) h) h
+returns-clause-measured g c = λ v e b h. c.corrected.ensures.measured v e b
+    (c.in_ok-by_longitudes.ensures.measured v e (omega (arith, b)) h) h
 
 pub returns-clause-wide : goal.returns-clause-wide
 returns-clause-wide g c = λ v e b h. c.corrected.ensures.wide v e b (c.in_ok-by_longitudes.ensures.wide v e b h) h

@@ -16,25 +16,29 @@ pub returns-clause-low : goal.returns-clause-low
 returns-clause-low g c =
     let shown = g.E.Enclosure.shown in
     let p = g.E.Enclosure.proper in
-    near_low _ (rough_found shown p c.args.t c.nearest_moon.result c.requires.in_table (returns-clause-leads g c _ _ (within_world shown p c.args.t)))
+    near_low _ (rough_found shown p c.args.t c.nearest_moon.result c.requires.in_table
+    (returns-clause-leads g c _ _ (within_world shown p c.args.t)))
 
 pub returns-clause-high : goal.returns-clause-high
 returns-clause-high g c =
     let shown = g.E.Enclosure.shown in
     let p = g.E.Enclosure.proper in
-    near_high _ (rough_found shown p c.args.t c.nearest_moon.result c.requires.in_table (returns-clause-leads g c _ _ (within_world shown p c.args.t)))
+    near_high _ (rough_found shown p c.args.t c.nearest_moon.result c.requires.in_table
+    (returns-clause-leads g c _ _ (within_world shown p c.args.t)))
 
 pub returns-clause-from : goal.returns-clause-from
 returns-clause-from g c =
     let shown = g.E.Enclosure.shown in
     let p = g.E.Enclosure.proper in
-    dated_from _ (rough_found shown p c.args.t c.nearest_moon.result c.requires.in_table (returns-clause-leads g c _ _ (within_world shown p c.args.t)))
+    dated_from _ (rough_found shown p c.args.t c.nearest_moon.result c.requires.in_table
+    (returns-clause-leads g c _ _ (within_world shown p c.args.t)))
 
 pub returns-clause-to : goal.returns-clause-to
 returns-clause-to g c =
     let shown = g.E.Enclosure.shown in
     let p = g.E.Enclosure.proper in
-    dated_to _ (rough_found shown p c.args.t c.nearest_moon.result c.requires.in_table (returns-clause-leads g c _ _ (within_world shown p c.args.t)))
+    dated_to _ (rough_found shown p c.args.t c.nearest_moon.result c.requires.in_table
+    (returns-clause-leads g c _ _ (within_world shown p c.args.t)))
 
 pub returns-clause-close : goal.returns-clause-close
 returns-clause-close g c = λ v e b h.

@@ -25,7 +25,8 @@ returns-clause-early g c = λ z.
     let second = within_second shown p c.args.t c.args.p in
     let l = c.in_ok-past.ensures.leads w (argument 1) (argument 0) second first in
     late_failure (shown c.args.t) c.phase_about.result (three_made w (phase_past_least (argument 1) (argument 0)) z l)
-    (c.phase_about.ensures.leads w (argument 1) (argument 0) _ second first (c.phase_back.ensures.encloses.holds w _ (argument 0) (leaf_within l) first))
+    (c.phase_about.ensures.leads w (argument 1) (argument 0) _ second first
+    (c.phase_back.ensures.encloses.holds w _ (argument 0) (leaf_within l) first))
 
 pub returns-clause-measured : goal.returns-clause-measured
 returns-clause-measured g c = λ v e b h k.
@@ -33,7 +34,8 @@ returns-clause-measured g c = λ v e b h k.
     let p = c.in_ok-past.ensures.measured v e (omega (arith, b)) h k in
     let a = back_within shown _ v c.args.t c.in_ok-past.past c.phase_back.result e c.in_ok-past.ensures.in_table k p
     (λ r p q. c.phase_back.ensures.encloses.narrow r p q) in
-    passage_measured shown v c.phase_about.result (c.phase_about.ensures.measured (3 * v + (2 ^ 34 - 2 ^ 24)) e (omega (arith, b)) h
+    passage_measured shown v c.phase_about.result (c.phase_about.ensures.measured (3 * v + (2 ^ 34 - 2 ^ 24)) e
+    (omega (arith, b)) h
     (moment_wider v (3 * v + (2 ^ 34 - 2 ^ 24)) _ (omega arith) k) a)
 
 pub returns-in_err-past-clause-measured : goal.returns-in_err-past-clause-measured

@@ -16,7 +16,8 @@ returns-clause-leads g c = λ w x h.
     let m = simp to_z-of_z at c.in_ok-next.ensures.from in
     let n = simp to_z-of_z at c.in_ok-next.ensures.to in
     let b : SFits w64 c.in_ok-next.next = omega (arith, ints, l, u, m, n) in
-    leads_bind_exact _ (c.in_ok-about.ensures.leads w x h) (leads_bind_exact _ (simp to_z-of_z at (c.in_ok-next.ensures.leads w x h))
+    leads_bind_exact _ (c.in_ok-about.ensures.leads w x h)
+    (leads_bind_exact _ (simp to_z-of_z at (c.in_ok-next.ensures.leads w x h))
     (simp to_z-of_z at (c.moon_preceding.ensures.leads w h.deep)))
 
 pub returns-in_err-about-clause-recent : goal.returns-in_err-about-clause-recent
@@ -32,4 +33,5 @@ returns-in_err-next-clause-recent g c = λ v e b h.
     let a : SFits w64 (c.in_ok-about.about -ℤ pos 1) = omega (arith, ints, l, u) in
     let k = simp to_z-of_z at c.in_err-next.ensures.close in
     let fails = err_from_is_err_and c.from_residual-in_err-next.result c.from_residual-in_err-next.ensures.1 in
-    rw (fails.1, fails.2) (k (omega (arith, ints, l)) (omega (arith, ints, u)) v e (omega (arith, b)) (late_moment v _ h))
+    rw (fails.1, fails.2) (k (omega (arith, ints, l)) (omega (arith, ints, u)) v e (omega (arith, b))
+    (late_moment v _ h))

@@ -16,4 +16,5 @@ returns-in_err-next-clause-recent g c = λ v e b h.
     let z : SFits w64 c.in_ok-about.about = omega (arith, ints, l, u) in
     let k = simp to_z-of_z at c.in_err-next.ensures.close in
     let fails = err_from_is_err_and c.from_residual-in_err-next.result c.from_residual-in_err-next.ensures.1 in
-    rw (fails.1, fails.2) (k (omega (arith, ints, l)) (omega (arith, ints, u)) v e (omega (arith, b)) (late_moment v _ h))
+    rw (fails.1, fails.2) (k (omega (arith, ints, l)) (omega (arith, ints, u)) v e (omega (arith, b))
+    (late_moment v _ h))

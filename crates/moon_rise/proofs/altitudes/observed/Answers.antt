@@ -14,12 +14,14 @@ returns-clause-measured g c = λ k t e.
 pub returns-in_err-greenwich-clause-measured : goal.returns-in_err-greenwich-clause-measured
 returns-in_err-greenwich-clause-measured g c = λ k t e.
     let fails = err_from_is_err_and c.from_residual.result c.from_residual.ensures.1 in
-    rw (fails.1, fails.2) (sidereal_never g.E.Enclosure.shown g.E.Enclosure.proper c.args.t IsClose _ c.in_err-greenwich.ensures.leads)
+    rw (fails.1, fails.2) (sidereal_never g.E.Enclosure.shown g.E.Enclosure.proper c.args.t IsClose _
+    c.in_err-greenwich.ensures.leads)
 
 pub returns-in_err-greenwich-clause-open : goal.returns-in_err-greenwich-clause-open
 returns-in_err-greenwich-clause-open g c =
     let fails = err_from_is_err_and c.from_residual.result c.from_residual.ensures.1 in
-    rw (fails.1, fails.2) (sidereal_never g.E.Enclosure.shown g.E.Enclosure.proper c.args.t (IsYearUndecidedFor (g.E.Enclosure.shown c.args.t)) _ c.in_err-greenwich.ensures.leads)
+    rw (fails.1, fails.2) (sidereal_never g.E.Enclosure.shown g.E.Enclosure.proper c.args.t
+    (IsYearUndecidedFor (g.E.Enclosure.shown c.args.t)) _ c.in_err-greenwich.ensures.leads)
 
 pub returns-in_err-tilt-clause-measured : goal.returns-in_err-tilt-clause-measured
 returns-in_err-tilt-clause-measured g c = λ k t e.

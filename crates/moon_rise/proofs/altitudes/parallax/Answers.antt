@@ -7,4 +7,5 @@ unfolding computed_parallax_of
 returns-clause-holds g c = λ w x y h k.
     let d = rw c.kilometre_in_radii.ensures.kilometre at (c.mul_frac.ensures.encloses.holds w y k) in
     parallax_holds g.E.Enclosure.shown w x y c.arcsin_deg.result
-    (c.arcsin_deg.ensures.encloses.holds w _ (c.div.ensures.encloses.holds w _ _ (c.cos_deg.ensures.encloses.holds w x h) d))
+    (c.arcsin_deg.ensures.encloses.holds w _
+    (c.div.ensures.encloses.holds w _ _ (c.cos_deg.ensures.encloses.holds w x h) d))

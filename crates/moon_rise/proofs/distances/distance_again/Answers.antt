@@ -9,4 +9,5 @@ pub returns-clause-leads : goal.returns-clause-leads
 unfolding distance_of
 returns-clause-leads g c = λ w x h.
     rw c.step.ensures.counted
-    (by_elements (λ v. answer (distance_by (lunar_angles_of v))) (h.again _) (λ d k. leads_answer (c.distance_at.ensures.holds w d k)))
+    (by_elements (λ v. answer (distance_by (lunar_angles_of v))) (h.again _)
+    (λ d k. leads_answer (c.distance_at.ensures.holds w d k)))

@@ -10,7 +10,8 @@ returns-clause-holds g c = λ w deep.
     let f : SFits w64 c.args.day = c.ranges.day in
     let k = simp to_z-of_z at c.zone_on.ensures in
     let h = simp to_z-of_z at (c.moment_by.ensures.encloses.holds w deep) in
-    moment_holds g.E.Enclosure.shown w c.args.place c.args.day c.args.moment c.moment_by.result (hours_small c.args.place c.args.day).some (rw k at h)
+    moment_holds g.E.Enclosure.shown w c.args.place c.args.day c.args.moment c.moment_by.result
+    (hours_small c.args.place c.args.day).some (rw k at h)
 
 pub returns-clause-narrow : goal.returns-clause-narrow
 returns-clause-narrow g c = λ r.
@@ -21,10 +22,12 @@ returns-clause-narrow g c = λ r.
 
 pub returns-clause-measured : goal.returns-clause-measured
 returns-clause-measured g c = λ e d.
-    moment_exact g.E.Enclosure.shown _ (zone_on c.args.place c.args.day) c.args.day c.args.moment c.moment_by.result e d c.requires.few
+    moment_exact g.E.Enclosure.shown _ (zone_on c.args.place c.args.day) c.args.day c.args.moment c.moment_by.result e d
+    c.requires.few
     (hours_small c.args.place c.args.day) (returns-clause-narrow g c)
 
 pub returns-clause-in_year : goal.returns-clause-in_year
 returns-clause-in_year g c = λ a b d.
-    moment_in_year g.E.Enclosure.shown _ (zone_on c.args.place c.args.day) c.args.day c.args.moment c.moment_by.result a b d c.requires.few
+    moment_in_year g.E.Enclosure.shown _ (zone_on c.args.place c.args.day) c.args.day c.args.moment c.moment_by.result a
+    b d c.requires.few
     (hours_small c.args.place c.args.day) (returns-clause-narrow g c)

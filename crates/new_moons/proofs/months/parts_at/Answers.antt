@@ -12,7 +12,8 @@ overflow_add-result c =
     let e : c.from.result ≡ c.args.start = simp to_z-of_z at c.from.ensures in
     let h : c.from-2.result ≡ c.args.month = simp to_z-of_z at c.from-2.ensures in
     let k : c.from-3.result ≡ c.args.number = simp to_z-of_z at c.from-3.ensures in
-    let p = bounded_z c.args.month c.args.number (pos (2 ^ 63)) (pos (2 ^ 63)) (omega (arith, ints)) (omega (arith, ints)) (omega (arith, ints))
+    let p = bounded_z c.args.month c.args.number (pos (2 ^ 63)) (pos (2 ^ 63)) (omega (arith, ints))
+    (omega (arith, ints)) (omega (arith, ints))
     (omega (arith, ints)) in
     let ga : SFits w128 c.args.start = omega (arith, ints) in
     let gb : SFits w128 c.args.month = omega (arith, ints) in
@@ -29,7 +30,8 @@ returns c =
     let e : c.from.result ≡ c.args.start = simp to_z-of_z at c.from.ensures in
     let h : c.from-2.result ≡ c.args.month = simp to_z-of_z at c.from-2.ensures in
     let k : c.from-3.result ≡ c.args.number = simp to_z-of_z at c.from-3.ensures in
-    let p = bounded_z c.args.month c.args.number (pos (2 ^ 63)) (pos (2 ^ 63)) (omega (arith, ints)) (omega (arith, ints)) (omega (arith, ints))
+    let p = bounded_z c.args.month c.args.number (pos (2 ^ 63)) (pos (2 ^ 63)) (omega (arith, ints))
+    (omega (arith, ints)) (omega (arith, ints))
     (omega (arith, ints)) in
     let ga : SFits w128 c.args.start = omega (arith, ints) in
     let gb : SFits w128 c.args.month = omega (arith, ints) in

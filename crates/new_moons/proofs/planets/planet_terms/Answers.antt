@@ -16,7 +16,8 @@ returns-clause-holds g c = λ w d.
     let x = integer c.args.number in
     let i = simp to_z-of_z at (c.from_int-months.ensures.encloses.holds w d) in
     let q = terms_of (turning_term_of x) no_periodic_term (planet_periodic_terms PLANET_TERMS) in
-    let t = c.sum_of_periodic_terms.ensures.holds w x (planet_periodic_terms PLANET_TERMS) planet_turns planet_reach i in
+    let t = c.sum_of_periodic_terms.ensures.holds w x (planet_periodic_terms PLANET_TERMS) planet_turns planet_reach i
+    in
     planets_hold g.E.Enclosure.shown w c.args.number _ (rw c.millionth.ensures.value at
     (c.mul_frac.ensures.encloses.holds w q t))
 

@@ -12,7 +12,8 @@ returns g c = record {
   near = turn_found g.E.Enclosure.shown c.args.angle _ _ c.turn_of_span.result c.in_ok-span.ensures.holds
       c.turn_of_span.ensures.near;
   narrow = λ v l h.
-      let k = endpoints_of (neg_ℤ (pos (2 ^ 57))) (pos (2 ^ 57)) v _ _ _ c.in_ok-span.span.ordered c.in_ok-span.ensures.holds
+      let k = endpoints_of (neg_ℤ (pos (2 ^ 57))) (pos (2 ^ 57)) v _ _ _ c.in_ok-span.span.ordered
+      c.in_ok-span.ensures.holds
       c.in_ok-span.ensures.tight h in
       c.turn_of_span.ensures.narrow v l (omega (arith, ints, k.low)) (omega (arith, ints, k.high))
       (omega (arith, ints, k.close));

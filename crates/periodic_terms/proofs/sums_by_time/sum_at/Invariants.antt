@@ -14,5 +14,6 @@ invariant-loop-row l =
     ((w : World) (x : Expression) (vs : List PeriodicTerm) (width : ℕ) (lo hi : ℤ) → 40 ≤ w.depth → AreTurning vs l.rows
     → AreNear l.mid width lo hi
     → value w x ⊆ between (units_of_56 lo) (units_of_56 hi)
-    → value w (terms_to (turning_term_of x) no_periodic_term vs l.row-index) ⊆ around l.sum (radius_to vs width l.row-index))
+    → value w (terms_to (turning_term_of x) no_periodic_term vs l.row-index) ⊆ around l.sum
+    (radius_to vs width l.row-index))
     × (neg_ℤ (pos (l.row-index * 2 ^ 87)) ≤ℤ l.sum) × (l.sum ≤ℤ pos (l.row-index * 2 ^ 87))

@@ -5,7 +5,12 @@ use Rattle.periodic_terms.proofs.TableRows.{few_rows, greatest_few, greatest_sma
 use Rattle.periodic_terms.proofs.tables.greatest_sum.Goals as goal
 
 pub sum_of_rows-requires : goal.sum_of_rows-requires
-sum_of_rows-requires c = record { few = few_rows _ 4 refl (omega arith); small = greatest_small; sums = greatest_sums; few_sums = greatest_few }
+sum_of_rows-requires c = record {
+  few = few_rows _ 4 refl (omega arith);
+  small = greatest_small;
+  sums = greatest_sums;
+  few_sums = greatest_few;
+}
 
 pub returns : goal.returns
 returns c = record {

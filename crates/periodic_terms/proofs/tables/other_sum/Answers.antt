@@ -6,7 +6,12 @@ use Rattle.periodic_terms.proofs.TableRows.{few_rows, other_few, other_small, ot
 use Rattle.periodic_terms.proofs.tables.other_sum.Goals as goal
 
 pub sum_of_rows-requires : goal.sum_of_rows-requires
-sum_of_rows-requires c = record { few = few_rows _ 56 refl (omega arith); small = other_small; sums = other_sums; few_sums = other_few }
+sum_of_rows-requires c = record {
+  few = few_rows _ 56 refl (omega arith);
+  small = other_small;
+  sums = other_sums;
+  few_sums = other_few;
+}
 
 pub returns : goal.returns
 returns c = record {

@@ -12,7 +12,8 @@ overflow_mul-result c =
     let e : c.from.result ≡ c.args.multiple = simp to_z-of_z at c.from.ensures in
     let e' : c.from-2.result ≡ pos c.args.turn = c.from-2.ensures in
     let b = times_bounds c.args.multiple c.args.turn c.requires.few (omega (arith, c.ranges.turn)) in
-    let p : SFits w128 (c.from.result *ℤ c.from-2.result) = rw (e, e') (fits_128 _ (omega (arith, ints, b.0)) (omega (arith, ints, b.1))) in
+    let p : SFits w128 (c.from.result *ℤ c.from-2.result) =
+    rw (e, e') (fits_128 _ (omega (arith, ints, b.0)) (omega (arith, ints, b.1))) in
     simp to_z-of_z p
 
 pub returns-clause-from : goal.returns-clause-from
@@ -23,7 +24,8 @@ returns-clause-from c =
     let e : c.from.result ≡ c.args.multiple = simp to_z-of_z at c.from.ensures in
     let e' : c.from-2.result ≡ pos c.args.turn = c.from-2.ensures in
     let b = times_bounds c.args.multiple c.args.turn c.requires.few (omega (arith, c.ranges.turn)) in
-    let q : SFits w128 (c.from.result *ℤ c.from-2.result) = rw (e, e') (fits_128 _ (omega (arith, ints, b.0)) (omega (arith, ints, b.1))) in
+    let q : SFits w128 (c.from.result *ℤ c.from-2.result) =
+    rw (e, e') (fits_128 _ (omega (arith, ints, b.0)) (omega (arith, ints, b.1))) in
     simp to_z-of_z (rw (e, e') b.0)
 
 pub returns-clause-to : goal.returns-clause-to
@@ -34,5 +36,6 @@ returns-clause-to c =
     let e : c.from.result ≡ c.args.multiple = simp to_z-of_z at c.from.ensures in
     let e' : c.from-2.result ≡ pos c.args.turn = c.from-2.ensures in
     let b = times_bounds c.args.multiple c.args.turn c.requires.few (omega (arith, c.ranges.turn)) in
-    let q : SFits w128 (c.from.result *ℤ c.from-2.result) = rw (e, e') (fits_128 _ (omega (arith, ints, b.0)) (omega (arith, ints, b.1))) in
+    let q : SFits w128 (c.from.result *ℤ c.from-2.result) =
+    rw (e, e') (fits_128 _ (omega (arith, ints, b.0)) (omega (arith, ints, b.1))) in
     simp to_z-of_z (rw (e, e') b.1)

@@ -9,8 +9,10 @@ overflow_add-result-2 c =
     let f1 : SFits w128 c.times.result = search rules in
     let f2 : SFits w128 c.times-2.result = search rules in
     let f3 : SFits w128 c.times-3.result = search rules in
-    let g2 : SFits w128 (c.times.result +ℤ c.times-2.result) = omega (arith, ints, c.times.ensures, c.times-2.ensures) in
-    let g3 : SFits w128 (c.times.result +ℤ c.times-2.result +ℤ c.times-3.result) = omega (arith, ints, c.times.ensures, c.times-2.ensures, c.times-3.ensures) in
+    let g2 : SFits w128 (c.times.result +ℤ c.times-2.result) = omega (arith, ints, c.times.ensures, c.times-2.ensures)
+    in
+    let g3 : SFits w128 (c.times.result +ℤ c.times-2.result +ℤ c.times-3.result) =
+    omega (arith, ints, c.times.ensures, c.times-2.ensures, c.times-3.ensures) in
     simp to_z-of_z g3
 
 pub overflow_add-result-3 : goal.overflow_add-result-3
@@ -19,8 +21,10 @@ overflow_add-result-3 c =
     let f2 : SFits w128 c.times-2.result = search rules in
     let f3 : SFits w128 c.times-3.result = search rules in
     let f4 : SFits w128 c.times-4.result = search rules in
-    let g2 : SFits w128 (c.times.result +ℤ c.times-2.result) = omega (arith, ints, c.times.ensures, c.times-2.ensures) in
-    let g3 : SFits w128 (c.times.result +ℤ c.times-2.result +ℤ c.times-3.result) = omega (arith, ints, c.times.ensures, c.times-2.ensures, c.times-3.ensures) in
+    let g2 : SFits w128 (c.times.result +ℤ c.times-2.result) = omega (arith, ints, c.times.ensures, c.times-2.ensures)
+    in
+    let g3 : SFits w128 (c.times.result +ℤ c.times-2.result +ℤ c.times-3.result) =
+    omega (arith, ints, c.times.ensures, c.times-2.ensures, c.times-3.ensures) in
     let g4 : SFits w128 (c.times.result +ℤ c.times-2.result +ℤ c.times-3.result +ℤ c.times-4.result) = omega
     (arith, ints, c.times.ensures, c.times-2.ensures, c.times-3.ensures, c.times-4.ensures) in
     simp to_z-of_z g4
@@ -31,8 +35,10 @@ returns-clause-value c =
     let f2 : SFits w128 c.times-2.result = search rules in
     let f3 : SFits w128 c.times-3.result = search rules in
     let f4 : SFits w128 c.times-4.result = search rules in
-    let g2 : SFits w128 (c.times.result +ℤ c.times-2.result) = omega (arith, ints, c.times.ensures, c.times-2.ensures) in
-    let g3 : SFits w128 (c.times.result +ℤ c.times-2.result +ℤ c.times-3.result) = omega (arith, ints, c.times.ensures, c.times-2.ensures, c.times-3.ensures) in
+    let g2 : SFits w128 (c.times.result +ℤ c.times-2.result) = omega (arith, ints, c.times.ensures, c.times-2.ensures)
+    in
+    let g3 : SFits w128 (c.times.result +ℤ c.times-2.result +ℤ c.times-3.result) =
+    omega (arith, ints, c.times.ensures, c.times-2.ensures, c.times-3.ensures) in
     let g4 : SFits w128 (c.times.result +ℤ c.times-2.result +ℤ c.times-3.result +ℤ c.times-4.result) = omega
     (arith, ints, c.times.ensures, c.times-2.ensures, c.times-3.ensures, c.times-4.ensures) in
     let e1 : SFits w64 c.args.row.elongation = search rules in
@@ -51,8 +57,10 @@ returns-clause-from c =
     let f2 : SFits w128 c.times-2.result = search rules in
     let f3 : SFits w128 c.times-3.result = search rules in
     let f4 : SFits w128 c.times-4.result = search rules in
-    let g2 : SFits w128 (c.times.result +ℤ c.times-2.result) = omega (arith, ints, c.times.ensures, c.times-2.ensures) in
-    let g3 : SFits w128 (c.times.result +ℤ c.times-2.result +ℤ c.times-3.result) = omega (arith, ints, c.times.ensures, c.times-2.ensures, c.times-3.ensures) in
+    let g2 : SFits w128 (c.times.result +ℤ c.times-2.result) = omega (arith, ints, c.times.ensures, c.times-2.ensures)
+    in
+    let g3 : SFits w128 (c.times.result +ℤ c.times-2.result +ℤ c.times-3.result) =
+    omega (arith, ints, c.times.ensures, c.times-2.ensures, c.times-3.ensures) in
     let g4 : SFits w128 (c.times.result +ℤ c.times-2.result +ℤ c.times-3.result +ℤ c.times-4.result) = omega
     (arith, ints, c.times.ensures, c.times-2.ensures, c.times-3.ensures, c.times-4.ensures) in
     let p : neg_ℤ (pos (2 ^ 70)) ≤ℤ (c.times.result +ℤ c.times-2.result +ℤ c.times-3.result +ℤ c.times-4.result) = omega
@@ -65,8 +73,10 @@ returns-clause-to c =
     let f2 : SFits w128 c.times-2.result = search rules in
     let f3 : SFits w128 c.times-3.result = search rules in
     let f4 : SFits w128 c.times-4.result = search rules in
-    let g2 : SFits w128 (c.times.result +ℤ c.times-2.result) = omega (arith, ints, c.times.ensures, c.times-2.ensures) in
-    let g3 : SFits w128 (c.times.result +ℤ c.times-2.result +ℤ c.times-3.result) = omega (arith, ints, c.times.ensures, c.times-2.ensures, c.times-3.ensures) in
+    let g2 : SFits w128 (c.times.result +ℤ c.times-2.result) = omega (arith, ints, c.times.ensures, c.times-2.ensures)
+    in
+    let g3 : SFits w128 (c.times.result +ℤ c.times-2.result +ℤ c.times-3.result) =
+    omega (arith, ints, c.times.ensures, c.times-2.ensures, c.times-3.ensures) in
     let g4 : SFits w128 (c.times.result +ℤ c.times-2.result +ℤ c.times-3.result +ℤ c.times-4.result) = omega
     (arith, ints, c.times.ensures, c.times-2.ensures, c.times-3.ensures, c.times-4.ensures) in
     let p : (c.times.result +ℤ c.times-2.result +ℤ c.times-3.result +ℤ c.times-4.result) ≤ℤ pos (2 ^ 70) = omega

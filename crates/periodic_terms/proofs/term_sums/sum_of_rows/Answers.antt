@@ -2,7 +2,8 @@ use Rattle.std.proofs.Common.{rules, arith, SFits, pos, ◌-ℤ◌}
 use Rattle.std.specs.Int.{w128}
 use Rattle.std.proofs.lemmas.Int.{ints, clamps, to_z-of_z}
 use Rattle.periodic_terms.specs.Multiples.{most_of}
-use Rattle.periodic_terms.proofs.TermSpans.{cut_apart, cut_inside, greatest_cut, least_cut, most_inside, radius_less, summed_most, wide_enough}
+use Rattle.periodic_terms.proofs.TermSpans.{cut_apart, cut_inside, greatest_cut, least_cut, most_inside, radius_less}
+use Rattle.periodic_terms.proofs.TermSpans.{summed_most, wide_enough}
 use Rattle.periodic_terms.proofs.TermSums.{all_most}
 use Rattle.periodic_terms.proofs.term_sums.sum_of_rows.Goals as goal
 

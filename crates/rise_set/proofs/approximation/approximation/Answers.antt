@@ -10,7 +10,8 @@ pub returns-clause-leads : goal.returns-clause-leads
 unfolding approximation_of
 returns-clause-leads g c = λ w a x h k.
     let f : SFits w64 c.in_ok-day.day = search rules in
-    leads_bind_exact _ (c.in_ok-day.ensures.leads w x k) (simp to_z-of_z at (c.approximation_on.ensures.leads w a x h k))
+    leads_bind_exact _ (c.in_ok-day.ensures.leads w x k)
+    (simp to_z-of_z at (c.approximation_on.ensures.leads w a x h k))
 
 pub returns-clause-measured : goal.returns-clause-measured
 returns-clause-measured g c = λ p v e b h.

@@ -21,7 +21,8 @@ returns-clause-measured g c = λ p d v e b h.
     let shown = g.E.Enclosure.shown in
     let f : SFits w64 c.args.day = c.ranges.day in
     let s = c.in_ok-offset.ensures.measured p v e b h in
-    let q = floor_between (TABLE_START -ℤ pos 1) (TABLE_END +ℤ pos 1) c.args.day (shown c.args.t) (g.E.Enclosure.proper c.args.t)
+    let q = floor_between (TABLE_START -ℤ pos 1) (TABLE_END +ℤ pos 1) c.args.day (shown c.args.t)
+    (g.E.Enclosure.proper c.args.t)
     (c.in_ok-offset.ensures.dated p v e b h) d in
     let a = simp to_z-of_z at c.apparent.ensures.measured in
     let m = a (v / 16 + 2 ^ 28) e (omega (arith, ints, q.0), omega (arith, ints, q.1)) s in

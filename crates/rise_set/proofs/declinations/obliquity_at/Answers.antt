@@ -6,7 +6,8 @@ use Rattle.rise_set.proofs.declinations.obliquity_at.Goals as goal
 pub returns-clause-measured : goal.returns-clause-measured
 returns-clause-measured g c = λ v e b h.
     tilt_measures g.E.Enclosure.shown v c.obliquity.result b
-    (c.obliquity.ensures.measured (v / 36525 + 2 ^ 12) e (omega (arith, b)) (c.in_ok-c.ensures.measured v e (omega (arith, b)) h))
+    (c.obliquity.ensures.measured (v / 36525 + 2 ^ 12) e (omega (arith, b))
+    (c.in_ok-c.ensures.measured v e (omega (arith, b)) h))
 
 pub returns-in_err-c-clause-measured : goal.returns-in_err-c-clause-measured
 returns-in_err-c-clause-measured g c = λ v e b h.
@@ -14,4 +15,5 @@ returns-in_err-c-clause-measured g c = λ v e b h.
     rw (fails.1, fails.2) (c.in_err-c.ensures.measured v e (omega (arith, b)) h)
 
 pub returns-clause-open : goal.returns-clause-open
-returns-clause-open g c = obliquity_never g.E.Enclosure.shown g.E.Enclosure.proper c.in_ok-c.c _ c.obliquity.result c.obliquity.ensures.leads
+returns-clause-open g c = obliquity_never g.E.Enclosure.shown g.E.Enclosure.proper c.in_ok-c.c _ c.obliquity.result
+    c.obliquity.ensures.leads

@@ -7,7 +7,8 @@ pub returns-clause-measured : goal.returns-clause-measured
 unfolding ahead_of
 returns-clause-measured g c = λ p v e h.
     local_within g.E.Enclosure.shown _ v c.args.longitude c.args.t c.mul_frac.result c.sub.result e p h
-    (λ r. c.mul_frac.ensures.encloses.narrow r _ (c.from_frac.ensures.encloses.narrow r)) (λ r x y. c.sub.ensures.encloses.narrow r x y)
+    (λ r. c.mul_frac.ensures.encloses.narrow r _ (c.from_frac.ensures.encloses.narrow r))
+    (λ r x y. c.sub.ensures.encloses.narrow r x y)
 
 pub returns-clause-dated : goal.returns-clause-dated
 unfolding ahead_of
@@ -15,4 +16,5 @@ returns-clause-dated g c = λ p v e h i.
     mean_dated g.E.Enclosure.shown g.E.Enclosure.proper _ v c.args.longitude c.args.t c.mul_frac.result c.sub.result e p
     (λ r. c.mul_frac.ensures.encloses.narrow r _ (c.from_frac.ensures.encloses.narrow r))
     (λ w d. c.mul_frac.ensures.encloses.holds w _ (c.from_frac.ensures.encloses.holds w d))
-    (λ w x k. c.sub.ensures.encloses.holds w _ _ k (c.mul_frac.ensures.encloses.holds w _ (c.from_frac.ensures.encloses.holds w k.deep))) h i
+    (λ w x k. c.sub.ensures.encloses.holds w _ _ k
+    (c.mul_frac.ensures.encloses.holds w _ (c.from_frac.ensures.encloses.holds w k.deep))) h i

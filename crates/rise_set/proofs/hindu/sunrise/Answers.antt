@@ -28,9 +28,11 @@ returns-clause-measured g c = λ e.
     let rises = simp to_z-of_z at c.in_ok-rising.ensures.measured in
     let t = rises ujjain_is_narrow d c.requires.day e in
     let rounds = simp to_z-of_z at c.in_ok-minutes.ensures.leads in
-    let n = rounded_minutes_near shown g.E.Enclosure.proper (17 * 2 ^ 28) c.args.day c.in_ok-minutes.minutes c.in_ok-rising.rising _ _ t rounds in
+    let n = rounded_minutes_near shown g.E.Enclosure.proper (17 * 2 ^ 28) c.args.day c.in_ok-minutes.minutes
+    c.in_ok-rising.rising _ _ t rounds in
     let narrow = simp to_z-of_z at c.days.ensures.encloses.narrow in
-    c.universal.ensures.measured ujjain_is_narrow.place (2 ^ 8) e (days_within shown _ c.in_ok-minutes.minutes c.days.result e n narrow)
+    c.universal.ensures.measured ujjain_is_narrow.place (2 ^ 8) e
+    (days_within shown _ c.in_ok-minutes.minutes c.days.result e n narrow)
 
 pub returns-in_err-rising-clause-measured : goal.returns-in_err-rising-clause-measured
 returns-in_err-rising-clause-measured g c = λ e.
@@ -50,7 +52,8 @@ returns-in_err-minutes-clause-measured g c = λ e.
 
 pub returns-clause-recent : goal.returns-clause-recent
 returns-clause-recent g c = λ k e.
-    recent_found g.E.Enclosure.shown (at_depth 40) (5 * 2 ^ 8) (c.args.day -ℤ pos 25) (c.args.day +ℤ pos 38) (sunrise_of c.args.day) c.universal.result
+    recent_found g.E.Enclosure.shown (at_depth 40) (5 * 2 ^ 8) (c.args.day -ℤ pos 25) (c.args.day +ℤ pos 38)
+    (sunrise_of c.args.day) c.universal.result
     (omega arith) (omega (arith, ints, k)) (sunrise_near (at_depth 40) c.args.day)
     (returns-clause-leads g c (at_depth 40) (omega arith)) (returns-clause-measured g c e)
 

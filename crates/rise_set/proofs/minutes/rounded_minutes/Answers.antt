@@ -9,5 +9,7 @@ returns-clause-close g c = λ e t.
     let minutes : SFits w64 (pos 1440) = omega (arith, ints) in
     let product : SFits w64 (pos 1440 *ℤ c.args.day) = omega (arith, ints, c.requires.day.0, c.requires.day.1) in
     let m = simp to_z-of_z at c.minutes_after.ensures.measured in
-    let close = simp to_z-of_z at (rw c.from.ensures at (c.floor_of_shifted.ensures.close (2 ^ 43) (omega arith) (m e c.requires.day t))) in
-    close (omega (arith, ints, c.requires.day.0, c.requires.day.1)) (omega (arith, ints, c.requires.day.0, c.requires.day.1))
+    let close = simp to_z-of_z at
+    (rw c.from.ensures at (c.floor_of_shifted.ensures.close (2 ^ 43) (omega arith) (m e c.requires.day t))) in
+    close (omega (arith, ints, c.requires.day.0, c.requires.day.1))
+    (omega (arith, ints, c.requires.day.0, c.requires.day.1))

@@ -8,15 +8,21 @@ returns-clause-measured g c = λ e p d.
     (λ r. c.from_frac-latitude.ensures.encloses.narrow r) in
     record {
       place = p.place;
-      tangent = tangent_within shown _ c.from_frac-latitude.result c.tan_deg.result e x (λ r q. c.tan_deg.ensures.encloses.narrow r q);
-      cosine = cosine_within shown _ c.from_frac-latitude.result c.cos_deg.result e x (λ r q. c.cos_deg.ensures.encloses.narrow r q);
+      tangent = tangent_within shown _ c.from_frac-latitude.result c.tan_deg.result e x
+          (λ r q. c.tan_deg.ensures.encloses.narrow r q);
+      cosine = cosine_within shown _ c.from_frac-latitude.result c.cos_deg.result e x
+          (λ r q. c.cos_deg.ensures.encloses.narrow r q);
       sine = sine_within shown _ c.args.depression c.sin_deg.result e d (λ r q. c.sin_deg.ensures.encloses.narrow r q);
     }
 
 pub returns-clause-holds : goal.returns-clause-holds
 returns-clause-holds g c = λ w a h.
     let x = c.from_frac-latitude.ensures.encloses.holds w h.deep in
-    record { tangent = c.tan_deg.ensures.encloses.holds w _ x; cosine = c.cos_deg.ensures.encloses.holds w _ x; sine = c.sin_deg.ensures.encloses.holds w a h }
+    record {
+      tangent = c.tan_deg.ensures.encloses.holds w _ x;
+      cosine = c.cos_deg.ensures.encloses.holds w _ x;
+      sine = c.sin_deg.ensures.encloses.holds w a h;
+    }
 
 pub returns-clause-whole : goal.returns-clause-whole
 returns-clause-whole g c = λ a h n. record {

@@ -8,6 +8,7 @@ returns g c =
     let pairs = c.entries.ensures.entries in
     let same = c.deref.ensures.value in
     record {
-      right = IfOk-weaker c.map_facts.result _ _ (λ answers h. right_answers c.args.file.now.facts answers (rw (same, facts, pairs) at h))
+      right = IfOk-weaker c.map_facts.result _ _ (λ answers h. right_answers c.args.file.now.facts answers
+          (rw (same, facts, pairs) at h))
           c.map_facts.ensures.right;
     }

@@ -5,7 +5,8 @@ use Rattle.run_core.proofs.UpgradeLemmas.{older_ruled, upgrade_comes}
 use Rattle.run_core.proofs.upgrade.upgrade.Goals as goal
 
 pub renew-requires-clause-rules : goal.renew-requires-clause-rules
-renew-requires-clause-rules g c κs within = rw c.entries.ensures.entries (older_ruled c.args.input.now c.in-Ok.file c.in-Ok.ensures)
+renew-requires-clause-rules g c κs within = rw c.entries.ensures.entries
+    (older_ruled c.args.input.now c.in-Ok.file c.in-Ok.ensures)
 
 pub returns-in_err-is_whole-in-Ok : goal.returns-in_err-is_whole-in-Ok
 returns-in_err-is_whole-in-Ok g c =
@@ -28,5 +29,6 @@ returns-in_ok-is_whole-in-Ok g c =
 
 pub returns-in-Err : goal.returns-in-Err
 returns-in-Err g c = record {
-  performs = refused c.in-Err.fail (upgradable c.args.input.now) c.in-Err.ensures (λ refuses. refuses) cut_refusal c.write_fail.ensures.performs;
+  performs = refused c.in-Err.fail (upgradable c.args.input.now) c.in-Err.ensures (λ refuses. refuses) cut_refusal
+      c.write_fail.ensures.performs;
 }

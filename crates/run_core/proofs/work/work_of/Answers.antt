@@ -7,13 +7,15 @@ use Rattle.run_core.proofs.work.work_of.Goals as goal
 pub returns-in_ok-almanac_requests-in-Almanac : goal.returns-in_ok-almanac_requests-in-Almanac
 returns-in_ok-almanac_requests-in-Almanac c =
     let made = c.in_ok-almanac_requests-in-Almanac.ensures.requests in
-    let same : map line_text c.in_ok-almanac_requests-in-Almanac.field-0.items ≡ map line_text (almanac_requests c.in-Almanac.year) = rw made refl in
+    let same : map line_text c.in_ok-almanac_requests-in-Almanac.field-0.items ≡ map line_text
+    (almanac_requests c.in-Almanac.year) = rw made refl in
     record { work = rw c.in-Almanac.is (same, c.in_ok-almanac_requests-in-Almanac.ensures.spelled) }
 
 pub returns-in_ok-east_requests-in-East : goal.returns-in_ok-east_requests-in-East
 returns-in_ok-east_requests-in-East c =
     let made = c.in_ok-east_requests-in-East.ensures.requests in
-    let same : map line_text c.in_ok-east_requests-in-East.field-0.items ≡ map line_text (east_requests c.in-East.year) = rw made refl in
+    let same : map line_text c.in_ok-east_requests-in-East.field-0.items ≡ map line_text
+    (east_requests c.in-East.year) = rw made refl in
     record { work = rw c.in-East.is (same, c.in_ok-east_requests-in-East.ensures.spelled) }
 
 pub returns-in_err-split_lines-in-Convert : goal.returns-in_err-split_lines-in-Convert

@@ -7,14 +7,16 @@ pub returns-clause-row : goal.returns-clause-row
 unfolding row_of
 returns-clause-row c =
     let row = row_by_first c.number.result c.args.place 0 c.number.ensures.within in
-    rw (c.requires.rows, c.column.ensures.column, c.places.ensures, c.number.ensures.number) (rw c.number.ensures.number at row)
+    rw (c.requires.rows, c.column.ensures.column, c.places.ensures, c.number.ensures.number)
+    (rw c.number.ensures.number at row)
 
 pub returns-clause-within : goal.returns-clause-within
 unfolding fact_rows
 returns-clause-within c =
     let row = row_by_first c.number.result c.args.place 0 c.number.ensures.within in
     let less = row_within place_lists c.number.result c.args.place kinds_have_places c.number.ensures.within in
-    rw (c.requires.rows, c.column.ensures.column, c.places.ensures, c.number.ensures.number) (rw (c.number.ensures.number) at (rw (← row) at less))
+    rw (c.requires.rows, c.column.ensures.column, c.places.ensures, c.number.ensures.number)
+    (rw (c.number.ensures.number) at (rw (← row) at less))
 
 pub overflow_add-result : goal.overflow_add-result
 overflow_add-result c =

@@ -12,7 +12,8 @@ returns-clause-measured g c = λ e.
     let x = midnight_within shown _ c.args.d c.apparent_midnight.result e c.requires.day k in
     let m = c.in_ok-local.ensures.measured paris_is_narrow (2 ^ 8) e (omega arith) x in
     noon_found shown _ c.in_ok-local.local c.ahead.result c.sub.result e m
-    (ahead_within shown _ _ c.ahead.result e paris_is_narrow (λ r. c.ahead.ensures.encloses.narrow r)) (λ r p q. c.sub.ensures.encloses.narrow r p q)
+    (ahead_within shown _ _ c.ahead.result e paris_is_narrow (λ r. c.ahead.ensures.encloses.narrow r))
+    (λ r p q. c.sub.ensures.encloses.narrow r p q)
 
 pub returns-in_err-local-clause-measured : goal.returns-in_err-local-clause-measured
 returns-in_err-local-clause-measured g c = λ e.

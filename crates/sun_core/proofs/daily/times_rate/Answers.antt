@@ -8,7 +8,8 @@ pub returns-in-Some-clause-holds : goal.returns-in-Some-clause-holds
 unfolding by_centuries in_centuries
 returns-in-Some-clause-holds g c = λ w x h.
     let k = c.in-Some.ensures.daily in
-    both_hold g.E.Enclosure.shown w x (fraction_of DAY_IN_CENTURIES) (fraction_of c.args.rate) (fraction_of c.in-Some.rate) c.mul_frac.result
+    both_hold g.E.Enclosure.shown w x (fraction_of DAY_IN_CENTURIES) (fraction_of c.args.rate)
+    (fraction_of c.in-Some.rate) c.mul_frac.result
     (daily_is c.args.rate c.in-Some.rate k.2 k.3 k.1) (c.mul_frac.ensures.encloses.holds w x h)
 
 pub returns-in-Some-clause-narrow : goal.returns-in-Some-clause-narrow
@@ -26,4 +27,5 @@ returns-in-None-clause-holds g c = λ w x h.
 pub returns-in-None-clause-narrow : goal.returns-in-None-clause-narrow
 unfolding by_days by_centuries in_centuries
 returns-in-None-clause-narrow g c = λ r x h.
-    rw c.in-None.ensures.daily (c.mul_frac-in-None-2.ensures.encloses.narrow r _ (c.mul_frac-in-None.ensures.encloses.narrow r x h))
+    rw c.in-None.ensures.daily (c.mul_frac-in-None-2.ensures.encloses.narrow r _
+    (c.mul_frac-in-None.ensures.encloses.narrow r x h))

@@ -15,8 +15,10 @@ unfolding sun_of centuries_from in_centuries
 returns-clause-leads g c =
     answer_follows g.E.Enclosure.shown sun_of c.args.t _ _ c.wrap_step.result
     (λ w x h.
-    by_dynamical x (λ v. cell SunWrap (multiples 360) (longitude_of v) (λ q. answer (remainder 360 (longitude_of v) q))) (c.in_ok-moment.ensures.leads w x h)
+    by_dynamical x (λ v. cell SunWrap (multiples 360) (longitude_of v) (λ q. answer (remainder 360 (longitude_of v) q)))
+    (c.in_ok-moment.ensures.leads w x h)
     (λ d r.
-    let days = c.sub-days.ensures.encloses.holds w d (constant (fraction_of NOON_2000)) r (c.from_frac.ensures.encloses.holds w r.deep) in
+    let days = c.sub-days.ensures.encloses.holds w d (constant (fraction_of NOON_2000)) r
+    (c.from_frac.ensures.encloses.holds w r.deep) in
     c.wrap_step.ensures.leads w (longitude_of (in_centuries (subtract d (constant (fraction_of NOON_2000)))))
     (c.longitude.ensures.holds w (subtract d (constant (fraction_of NOON_2000))) days)))

@@ -22,7 +22,8 @@ returns-clause-measured g c = λ v e b h k.
     let s = c.in_ok-short.ensures.measured v e (omega (arith, b)) h k in
     let a = forward_within shown _ v c.args.t c.in_ok-short.short c.moved_on.result e c.in_ok-short.ensures.in_table k s
     (λ r p q. c.moved_on.ensures.encloses.narrow r p q) in
-    passage_measured shown v c.passage_about.result (c.passage_about.ensures.measured (4 * v + (2 ^ 33 - 2 ^ 24)) e (omega (arith, b)) h
+    passage_measured shown v c.passage_about.result (c.passage_about.ensures.measured (4 * v + (2 ^ 33 - 2 ^ 24)) e
+    (omega (arith, b)) h
     (moment_wider v (4 * v + (2 ^ 33 - 2 ^ 24)) _ (omega arith) k) a)
 
 pub returns-clause-early : goal.returns-clause-early
@@ -34,4 +35,5 @@ returns-clause-early g c = λ z.
     let second = within_second shown p c.args.t c.args.l in
     let l = c.in_ok-short.ensures.leads w (argument 1) (argument 0) second first in
     late_failure (shown c.args.t) c.passage_about.result (three_made w (short_least (argument 1) (argument 0)) z l)
-    (c.passage_about.ensures.leads w (argument 1) (argument 0) _ second first (c.moved_on.ensures.encloses.holds w _ (argument 0) (leaf_within l) first))
+    (c.passage_about.ensures.leads w (argument 1) (argument 0) _ second first
+    (c.moved_on.ensures.encloses.holds w _ (argument 0) (leaf_within l) first))

@@ -14,5 +14,6 @@ returns-clause-holds g c = λ w x h.
     let fp : SFits w64 v.phase = search rules in
     let fr : SFits w64 v.rate = search rules in
     let k = simp to_z-of_z at (c.angle.ensures.encloses.holds w x h) in
-    both_hold_in_sum g.E.Enclosure.shown w (constant (ten_millionths v.phase)) x (fraction_of DAY_IN_CENTURIES) (ten_millionths v.rate)
+    both_hold_in_sum g.E.Enclosure.shown w (constant (ten_millionths v.phase)) x (fraction_of DAY_IN_CENTURIES)
+    (ten_millionths v.rate)
     (daily_ten_millionths v.rate) c.angle.result (daily_ten_millionths_are v.rate) k

@@ -11,5 +11,7 @@ returns g c = record {
       (λ w x h.
       let s = c.in_ok-longitude.ensures.leads w x h in
       let p = c.in_ok-moved.ensures.leads w x h in
-      leads_on _ s (leads_on _ p (c.wrapped_sidereal.ensures.leads w _ (c.sidereal_by.ensures.encloses.holds w _ _ (leaf_within s) (leaf_within p)))));
+      leads_on _ s
+      (leads_on _ p (c.wrapped_sidereal.ensures.leads w _ (c.sidereal_by.ensures.encloses.holds w _ _ (leaf_within s)
+      (leaf_within p)))));
 }

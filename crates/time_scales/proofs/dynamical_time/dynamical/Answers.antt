@@ -4,7 +4,8 @@ use Rattle.time_scales.proofs.dynamical_time.dynamical.Goals as goal
 
 pub returns-clause-recent : goal.returns-clause-recent
 returns-clause-recent g c = λ v e b h.
-    recent_sum_within g.E.Enclosure.shown _ v c.args.t c.in_ok-correction.correction c.add.result e c.in_ok-correction.ensures.in_table h
+    recent_sum_within g.E.Enclosure.shown _ v c.args.t c.in_ok-correction.correction c.add.result e
+    c.in_ok-correction.ensures.in_table h
     (c.in_ok-correction.ensures.measured v e b (recent_moment v _ h)) (λ r x y. c.add.ensures.encloses.narrow r x y)
 
 pub returns-in_err-correction-clause-recent : goal.returns-in_err-correction-clause-recent

@@ -13,7 +13,12 @@ pub returns : goal.returns
 returns c =
     let fy : SFits w64 c.args.year = c.ranges.year in
     let fd : SFits w64 c.first_of_july.result = search rules in
-    let fs : SFits w64 (c.first_of_july.result -ℤ pos 693596) = omega (arith, ints, c.first_of_july.ensures.near_from, c.first_of_july.ensures.near_to) in
+    let fs : SFits w64 (c.first_of_july.result -ℤ pos 693596) = omega (
+      arith,
+      ints,
+      c.first_of_july.ensures.near_from,
+      c.first_of_july.ensures.near_to,
+    ) in
     let fr : SFits w128 c.from.result = search rules in
     let day = simp to_z-of_z at c.first_of_july.ensures.day in
     let days = simp to_z-of_z at c.from.ensures in

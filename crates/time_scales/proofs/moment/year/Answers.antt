@@ -9,26 +9,31 @@ pub returns-in-Some-clause-leads : goal.returns-in-Some-clause-leads
 returns-in-Some-clause-leads g c = λ w x h.
     let s = c.in-Some.span in
     leads_year_test c.year_between.result _ _
-    (IfOk-weaker c.year_between.result _ _ (λ y d. year_shared s.lo s.hi y _ s.ordered c.in-Some.ensures.holds c.in-Some.ensures.tight d)
+    (IfOk-weaker c.year_between.result _ _ (λ y d. year_shared s.lo s.hi y _ s.ordered c.in-Some.ensures.holds
+    c.in-Some.ensures.tight d)
     c.year_between.ensures.decided)
-    (IfErr-weaker c.year_between.result _ _ (λ f o. open_shared s.lo s.hi _ _ _ f c.step-turn.ensures.number s.ordered c.in-Some.ensures.holds
+    (IfErr-weaker c.year_between.result _ _ (λ f o. open_shared s.lo s.hi _ _ _ f c.step-turn.ensures.number s.ordered
+    c.in-Some.ensures.holds
     c.in-Some.ensures.tight o) c.year_between.ensures.open)
     c.step-turn.ensures.counted h
 
 pub returns-in-Some-clause-decided : goal.returns-in-Some-clause-decided
 returns-in-Some-clause-decided g c =
     let s = c.in-Some.span in
-    IfOk-weaker c.year_between.result _ _ (λ y d. year_shared s.lo s.hi y _ s.ordered c.in-Some.ensures.holds c.in-Some.ensures.tight d)
+    IfOk-weaker c.year_between.result _ _ (λ y d. year_shared s.lo s.hi y _ s.ordered c.in-Some.ensures.holds
+    c.in-Some.ensures.tight d)
     c.year_between.ensures.decided
 
 pub returns-in-Some-clause-open : goal.returns-in-Some-clause-open
 returns-in-Some-clause-open g c =
     let s = c.in-Some.span in
-    IfErr-weaker c.year_between.result _ _ (λ f o. open_shared s.lo s.hi _ _ _ f c.step-turn.ensures.number s.ordered c.in-Some.ensures.holds
+    IfErr-weaker c.year_between.result _ _ (λ f o. open_shared s.lo s.hi _ _ _ f c.step-turn.ensures.number s.ordered
+    c.in-Some.ensures.holds
     c.in-Some.ensures.tight o) c.year_between.ensures.open
 
 pub returns-in-None-clause-leads : goal.returns-in-None-clause-leads
-returns-in-None-clause-leads g c = λ w x h. leads_undecided_year _ _ _ h (open_everywhere _ (c.in-None.ensures.none refl), refl, c.step-turn.ensures.number)
+returns-in-None-clause-leads g c = λ w x h. leads_undecided_year _ _ _ h
+    (open_everywhere _ (c.in-None.ensures.none refl), refl, c.step-turn.ensures.number)
     c.step-turn.ensures.counted
 
 pub returns-in-None-clause-open : goal.returns-in-None-clause-open

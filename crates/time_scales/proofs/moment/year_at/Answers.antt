@@ -20,4 +20,7 @@ returns c =
     let fq : SFits w128 c.div_euclid.result = search rules in
     let fr : SFits w64 c.year_of.result = search rules in
     let y = simp to_z-of_z at c.year_of.ensures.year in
-    record { year = simp to_z-of_z (y ∙ year_at_is c.args.moment c.div_euclid.result (simp to_z-of_z at c.div_euclid.ensures)) }
+    record {
+      year = simp to_z-of_z (y ∙ year_at_is c.args.moment c.div_euclid.result
+          (simp to_z-of_z at c.div_euclid.ensures));
+    }

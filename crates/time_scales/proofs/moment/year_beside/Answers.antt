@@ -14,4 +14,7 @@ returns-then-div_euclid c =
     let p = simp to_z-of_z at c.div_euclid.ensures in
     let q = simp to_z-of_z at c.div_euclid-2.ensures in
     let same : c.div_euclid.result ≡ c.div_euclid-2.result = grind (arith, ints, to_z-of_z, c.if-div_euclid.true) in
-    record { year = simp to_z-of_z (year_of_same_day c.args.known c.args.moment _ _ c.args.year p q same c.requires.year) }
+    record {
+      year = simp to_z-of_z (year_of_same_day c.args.known c.args.moment _ _ c.args.year p q same
+          c.requires.year);
+    }

@@ -13,7 +13,8 @@ returns-then-first-year_beside-clause-decided c =
     let fq : SFits w64 c.year_beside.result = search rules in
     let p = simp to_z-of_z at c.year_at-first.ensures.year in
     let q = simp to_z-of_z at c.year_beside.ensures.year in
-    let same : c.year_at-first.result ≡ c.year_beside.result = grind (arith, ints, to_z-of_z, c.if-first-year_beside.true) in
+    let same : c.year_at-first.result ≡ c.year_beside.result =
+    grind (arith, ints, to_z-of_z, c.if-first-year_beside.true) in
     simp to_z-of_z (year_same c.args.span.lo c.args.span.hi _ _ p q same)
 
 pub returns-clause-open : goal.returns-clause-open
@@ -24,5 +25,11 @@ returns-clause-open c =
     let fq : SFits w64 c.year_beside.result = search rules in
     let p = simp to_z-of_z at c.year_at-first.ensures.year in
     let q = simp to_z-of_z at c.year_beside.ensures.year in
-    let apart : (c.year_at-first.result ≡ c.year_beside.result → ⊥) = λ e. grind (arith, ints, to_z-of_z, c.if-first-year_beside.false) in
-    simp to_z-of_z (between_cells (year_apart c.args.span.lo c.args.span.hi _ _ p q apart) (own_endpoints c.args.span.lo c.args.span.hi), refl, refl)
+    let apart : (c.year_at-first.result ≡ c.year_beside.result → ⊥) =
+    λ e. grind (arith, ints, to_z-of_z, c.if-first-year_beside.false) in
+    simp to_z-of_z (
+      between_cells (year_apart c.args.span.lo c.args.span.hi _ _ p q apart)
+          (own_endpoints c.args.span.lo c.args.span.hi),
+      refl,
+      refl,
+    )

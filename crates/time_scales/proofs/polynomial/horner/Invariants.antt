@@ -8,5 +8,7 @@ use Rattle.time_scales.proofs.polynomial.horner.Given as goal
 
 abbrev pub invariant-loop-count : goal.invariant-loop-count
 invariant-loop-count g l =
-    ((w : World) → 40 ≤ w.depth → Within g.E.Enclosure.shown w (horner_to l.coefficients (fraction_of l.x) l.count) l.sum)
-    × ((r : Reach) → Narrow g.E.Enclosure.shown (limits_of g.E.Enclosure.BITS) r (horner_to l.coefficients (fraction_of l.x) l.count) l.sum)
+    ((w : World) → 40 ≤ w.depth → Within g.E.Enclosure.shown w (horner_to l.coefficients (fraction_of l.x) l.count)
+    l.sum)
+    × ((r : Reach) → Narrow g.E.Enclosure.shown (limits_of g.E.Enclosure.BITS) r
+    (horner_to l.coefficients (fraction_of l.x) l.count) l.sum)

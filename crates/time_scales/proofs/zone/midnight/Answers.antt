@@ -10,7 +10,8 @@ returns-clause-measured g c = λ e h.
     let j = simp to_z-of_z at c.from_int.ensures.encloses.narrow in
     let k = simp to_z-of_z at c.zone_on.ensures in
     let x = whole_day_within shown _ c.args.day c.from_int.result e h j in
-    let z = hours_within shown _ 24 c.zone_on.result c.from_frac.result e (rw k (zone_hours_kept c.args.place c.args.day))
+    let z = hours_within shown _ 24 c.zone_on.result c.from_frac.result e
+    (rw k (zone_hours_kept c.args.place c.args.day))
     (λ r. c.from_frac.ensures.encloses.narrow r) in
     midnight_within shown _ c.from_int.result c.from_frac.result c.sub.result e x z
     (λ r p q a b. c.sub.ensures.encloses.narrow r p _ a (c.mul_frac.ensures.encloses.narrow r q b))

@@ -19,7 +19,10 @@ invariant_of-result c =
     let f = simp to_z-of_z at c.min-low.ensures.value in
     let e' = simp to_z-of_z at c.max-2.ensures.value in
     let f' = simp to_z-of_z at c.min-high.ensures.value in
-    record { ordered = simp to_z-of_z (omega (arith, ints, clamps, e, f, e', f', c.sine_over_degrees-sine.result.ordered)) }
+    record {
+      ordered = simp to_z-of_z
+          (omega (arith, ints, clamps, e, f, e', f', c.sine_over_degrees-sine.result.ordered));
+    }
 
 pub returns-clause-holds : goal.returns-clause-holds
 returns-clause-holds c =
@@ -36,7 +39,8 @@ returns-clause-holds c =
     let e' = simp to_z-of_z at c.max-2.ensures.value in
     let f' = simp to_z-of_z at c.min-high.ensures.value in
     let h = simp to_z-of_z at c.sine_over_degrees-sine.ensures.holds in
-    simp to_z-of_z (λ n l. cut_holds n _ c.sine_over_degrees-sine.result.lo c.sine_over_degrees-sine.result.hi c.max.result c.min-low.result c.max-2.result
+    simp to_z-of_z (λ n l. cut_holds n _ c.sine_over_degrees-sine.result.lo c.sine_over_degrees-sine.result.hi
+    c.max.result c.min-low.result c.max-2.result
     c.min-high.result (order_at c.args.lo c.args.hi c.requires.ordered) (h n l) e f e' f')
 
 pub returns-clause-narrow : goal.returns-clause-narrow
@@ -57,5 +61,6 @@ returns-clause-narrow c =
     let s = simp to_z-of_z at c.sine_over_degrees-sine.ensures.small in
     let t = simp to_z-of_z at c.sine_over_degrees-sine.ensures.crest in
     let i = simp to_z-of_z at c.sine_over_degrees-sine.ensures.inside in
-    simp to_z-of_z (cut_narrow c.args.lo c.args.hi c.sine_over_degrees-sine.result.lo c.sine_over_degrees-sine.result.hi c.max.result c.min-low.result
+    simp to_z-of_z (cut_narrow c.args.lo c.args.hi c.sine_over_degrees-sine.result.lo c.sine_over_degrees-sine.result.hi
+    c.max.result c.min-low.result
     c.max-2.result c.min-high.result c.requires.ordered e f e' f' n s t i)

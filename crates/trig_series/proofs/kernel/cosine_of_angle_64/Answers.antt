@@ -5,7 +5,8 @@ use Rattle.trig_series.proofs.kernel.cosine_of_angle_64.Goals as goal
 pub returns : goal.returns
 returns k = record {
   near = λ n x l t.
-      cosine_near n k.args.angle _ 2881 _ _ _ _ _ _ _ _ _ x l k.requires.small (high_is _ _ _ k.high_half-square.ensures.value) t
+      cosine_near n k.args.angle _ 2881 _ _ _ _ _ _ _ _ _ x l k.requires.small
+      (high_is _ _ _ k.high_half-square.ensures.value) t
       (record {
         k9 = innermost k.high_half-square.result;
         k8 = k.step-i.ensures.near;

@@ -12,7 +12,8 @@ returns c =
     let e = simp to_z-of_z at c.octants_in.ensures.value in
     let q = division_is (pos 0 -ℤ c.args.lo) c.octants_in.result e in
     let fn : SFits w128 (pos 0 -ℤ c.octants_in.result) = omega (arith, ints, c.requires, q.not_above, q.close) in
-    let fr : SFits w128 ((pos 0 -ℤ c.octants_in.result) -ℤ pos 1) = omega (arith, ints, c.requires, q.not_above, q.close) in
+    let fr : SFits w128 ((pos 0 -ℤ c.octants_in.result) -ℤ pos 1) =
+    omega (arith, ints, c.requires, q.not_above, q.close) in
     record {
       value = simp to_z-of_z (first_is c.args.lo c.octants_in.result e);
       begun = simp to_z-of_z (omega (arith, ints, q.close));

@@ -15,7 +15,8 @@ returns-clause-holds c =
     let fm : SFits w128 (c.args.degrees -ℤ c.args.octant *ℤ pos OCTANT) = omega (arith, ints, c.requires) in
     let v = simp to_z-of_z at c.octant_in_turn.ensures.value in
     let k = simp to_z-of_z at c.sine_into_octant_of_turn.ensures.holds in
-    let u : pos (unsigned_abs (c.args.degrees -ℤ c.args.octant *ℤ pos OCTANT)) ≡ c.args.degrees -ℤ c.args.octant *ℤ pos OCTANT =
+    let u : pos (unsigned_abs (c.args.degrees -ℤ c.args.octant *ℤ pos OCTANT)) ≡ c.args.degrees -ℤ c.args.octant *ℤ pos
+    OCTANT =
     count_of _ (omega (arith, ints, c.requires.low)) in
     λ n y l same. at_in_turn n c.args.octant c.octant_in_turn.result c.args.degrees y _ v same (λ z e. k n z l (rw u e))
 
@@ -27,7 +28,8 @@ returns-clause-near c =
     let fp : SFits w128 (c.args.octant *ℤ pos OCTANT) = omega (arith, ints, c.requires) in
     let fm : SFits w128 (c.args.degrees -ℤ c.args.octant *ℤ pos OCTANT) = omega (arith, ints, c.requires) in
     let v = simp to_z-of_z at c.octant_in_turn.ensures.value in
-    turned_point c.args.octant c.octant_in_turn.result _ _ _ v (simp to_z-of_z at c.sine_into_octant_of_turn.ensures.near)
+    turned_point c.args.octant c.octant_in_turn.result _ _ _ v
+    (simp to_z-of_z at c.sine_into_octant_of_turn.ensures.near)
 
 pub returns-clause-begins : goal.returns-clause-begins
 returns-clause-begins c = λ e.

@@ -19,18 +19,21 @@ returns-then-octant-ge4-clause-near c =
     let fo = c.ranges.octant in
     let fm : SFits w128 (c.args.octant -ℤ pos 4) = omega (arith, ints, c.requires) in
     let h = simp to_z-of_z at c.sine_into_octant_of_half_turn.ensures.near in
-    later_point c.args.octant c.args.degrees _ _ _ _ (omega (arith, ints, c.if-octant-ge4.true)) c.opposite.ensures.low c.opposite.ensures.high h
+    later_point c.args.octant c.args.degrees _ _ _ _ (omega (arith, ints, c.if-octant-ge4.true)) c.opposite.ensures.low
+    c.opposite.ensures.high h
 
 pub returns-then-octant-ge4-clause-begins : goal.returns-then-octant-ge4-clause-begins
 returns-then-octant-ge4-clause-begins c = λ e.
     let fo = c.ranges.octant in
     let fm : SFits w128 (c.args.octant -ℤ pos 4) = omega (arith, ints, c.requires) in
     let h = simp to_z-of_z at c.sine_into_octant_of_half_turn.ensures.begins in
-    later_begins c.args.octant _ _ _ _ (omega (arith, ints, c.if-octant-ge4.true)) c.opposite.ensures.low c.opposite.ensures.high (h e)
+    later_begins c.args.octant _ _ _ _ (omega (arith, ints, c.if-octant-ge4.true)) c.opposite.ensures.low
+    c.opposite.ensures.high (h e)
 
 pub returns-then-octant-ge4-clause-endpoints : goal.returns-then-octant-ge4-clause-endpoints
 returns-then-octant-ge4-clause-endpoints c = λ e.
     let fo = c.ranges.octant in
     let fm : SFits w128 (c.args.octant -ℤ pos 4) = omega (arith, ints, c.requires) in
     let h = simp to_z-of_z at c.sine_into_octant_of_half_turn.ensures.endpoints in
-    later_endpoints c.args.octant _ _ _ _ (omega (arith, ints, c.if-octant-ge4.true)) c.opposite.ensures.low c.opposite.ensures.high (h e)
+    later_endpoints c.args.octant _ _ _ _ (omega (arith, ints, c.if-octant-ge4.true)) c.opposite.ensures.low
+    c.opposite.ensures.high (h e)

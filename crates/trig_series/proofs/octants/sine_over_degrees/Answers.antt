@@ -4,7 +4,8 @@ use Rattle.std.proofs.lemmas.Int.{ints, to_z-of_z}
 use Rattle.book_model.specs.programs.Leading.{units_of_56}
 use Rattle.book_model.specs.numbers.Octants.{sine_in as in_octant}
 use Rattle.encl_core.specs.parts.TheConstants.{OCTANT}
-use Rattle.trig_series.proofs.OctantLemmas.{division_is, first_alone, over_holds, first_alone_is, last_alone_is, edge_below, edge_above}
+use Rattle.trig_series.proofs.OctantLemmas.{division_is, first_alone, over_holds, first_alone_is, last_alone_is}
+use Rattle.trig_series.proofs.OctantLemmas.{edge_below, edge_above}
 use Rattle.trig_series.proofs.PartLemmas.{begun_elsewhere, ended_elsewhere, by_inside}
 use Rattle.trig_series.proofs.TurnLemmas.{one_narrow}
 use Rattle.trig_series.proofs.octants.sine_over_degrees.Goals as goal
@@ -31,7 +32,8 @@ sine_over_edges-requires-clause-several c =
     let fp = r.edge in
     let fn = r.next in
     let l = simp to_z-of_z at c.if-lo-edge.true in
-    simp to_z-of_z (edge_below c.octants_in-octant.result c.args.lo c.args.hi (omega (arith, ints, q.not_above)) (omega (arith, ints, l)) c.requires.ordered)
+    simp to_z-of_z (edge_below c.octants_in-octant.result c.args.lo c.args.hi (omega (arith, ints, q.not_above))
+    (omega (arith, ints, l)) c.requires.ordered)
 
 pub sine_over_edges-requires-then-hi-edge-clause-several : goal.sine_over_edges-requires-then-hi-edge-clause-several
 sine_over_edges-requires-then-hi-edge-clause-several c =
@@ -44,7 +46,8 @@ sine_over_edges-requires-then-hi-edge-clause-several c =
     let fp = r.edge in
     let fn = r.next in
     let u = simp to_z-of_z at c.if-hi-edge.true in
-    simp to_z-of_z (edge_above c.octants_in-octant.result c.args.lo c.args.hi (omega (arith, ints, q.close)) (omega (arith, ints, u)))
+    simp to_z-of_z (edge_above c.octants_in-octant.result c.args.lo c.args.hi (omega (arith, ints, q.close))
+    (omega (arith, ints, u)))
 
 pub returns-then-lo-edge-clause-narrow : goal.returns-then-lo-edge-clause-narrow
 returns-then-lo-edge-clause-narrow c =
@@ -96,9 +99,12 @@ returns-clause-holds c =
     let h = simp to_z-of_z at c.sine_within_octant.ensures.holds in
     λ n m.
     over_holds n c.args.lo c.args.hi c.octants_in-octant.result c.octants_in-octant.result _ _ m c.requires.ordered
-    (first_alone_is c.octants_in-octant.result c.args.lo (omega (arith, ints, l)) (omega (arith, ints, u, c.requires.ordered)))
-    (last_alone_is c.octants_in-octant.result c.args.hi (omega (arith, ints, l, c.requires.ordered)) (omega (arith, ints, u)))
-    (λ k from to. first_alone (in_octant n (units_of_56 c.args.lo) (units_of_56 c.args.hi)) _ c.octants_in-octant.result (h n m) k from
+    (first_alone_is c.octants_in-octant.result c.args.lo (omega (arith, ints, l))
+    (omega (arith, ints, u, c.requires.ordered)))
+    (last_alone_is c.octants_in-octant.result c.args.hi (omega (arith, ints, l, c.requires.ordered))
+    (omega (arith, ints, u)))
+    (λ k from to. first_alone (in_octant n (units_of_56 c.args.lo) (units_of_56 c.args.hi)) _ c.octants_in-octant.result
+    (h n m) k from
     (omega (arith, ints, to)))
 
 pub returns-clause-narrow : goal.returns-clause-narrow
@@ -110,7 +116,8 @@ returns-clause-narrow c =
     let r = room c.args.lo c.args.hi c.octants_in-octant.result c.requires.ordered c.requires.from c.requires.to e in
     let fp = r.edge in
     let fn = r.next in
-    one_narrow c.args.lo c.args.hi c.sine_within_octant.result.lo c.sine_within_octant.result.hi (simp to_z-of_z at c.sine_within_octant.ensures.narrow)
+    one_narrow c.args.lo c.args.hi c.sine_within_octant.result.lo c.sine_within_octant.result.hi
+    (simp to_z-of_z at c.sine_within_octant.ensures.narrow)
 
 pub returns-clause-small : goal.returns-clause-small
 returns-clause-small c =
@@ -144,7 +151,8 @@ returns-then-lo-edge-clause-inside c =
     let r = room c.args.lo c.args.hi c.octants_in-octant.result c.requires.ordered c.requires.from c.requires.to e in
     let fp = r.edge in
     let l = simp to_z-of_z at c.if-lo-edge.true in
-    λ k i. absurd (begun_elsewhere k c.octants_in-octant.result c.args.lo c.args.hi (omega (arith, ints, q.not_above)) (omega (arith, ints, l))
+    λ k i. absurd (begun_elsewhere k c.octants_in-octant.result c.args.lo c.args.hi (omega (arith, ints, q.not_above))
+    (omega (arith, ints, l))
     c.requires.ordered i)
 
 pub returns-then-hi-edge-clause-inside : goal.returns-then-hi-edge-clause-inside
@@ -158,7 +166,8 @@ returns-then-hi-edge-clause-inside c =
     let fp = r.edge in
     let fn = r.next in
     let u = simp to_z-of_z at c.if-hi-edge.true in
-    λ k i. absurd (ended_elsewhere k c.octants_in-octant.result c.args.lo c.args.hi (omega (arith, ints, q.close)) (omega (arith, ints, u)) i)
+    λ k i. absurd (ended_elsewhere k c.octants_in-octant.result c.args.lo c.args.hi (omega (arith, ints, q.close))
+    (omega (arith, ints, u)) i)
 
 pub returns-clause-inside : goal.returns-clause-inside
 returns-clause-inside c =
@@ -171,5 +180,6 @@ returns-clause-inside c =
     let fp = r.edge in
     let fn = r.next in
     let h = simp to_z-of_z at c.sine_within_octant.ensures.near in
-    λ k i. by_inside k c.octants_in-octant.result c.args.lo c.args.hi _ _ (omega (arith, ints, q.not_above)) (omega (arith, ints, q.close)) c.requires.ordered i
+    λ k i. by_inside k c.octants_in-octant.result c.args.lo c.args.hi _ _ (omega (arith, ints, q.not_above))
+    (omega (arith, ints, q.close)) c.requires.ordered i
     h

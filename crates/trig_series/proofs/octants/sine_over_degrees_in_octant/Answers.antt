@@ -39,7 +39,8 @@ returns-clause-holds c =
     let v = simp to_z-of_z at c.min.ensures.value in
     let low = simp to_z-of_z at c.sine_at_degrees_in_octant-low.ensures.holds in
     let high = simp to_z-of_z at c.sine_at_degrees_in_octant-high.ensures.holds in
-    λ n l. in_holds n c.args.octant c.args.lo c.args.hi c.max.result c.min.result _ _ _ _ _ _ u v (λ z e. low n z l e) (λ z e. high n z l e) c.hull.ensures.low
+    λ n l. in_holds n c.args.octant c.args.lo c.args.hi c.max.result c.min.result _ _ _ _ _ _ u v (λ z e. low n z l e)
+    (λ z e. high n z l e) c.hull.ensures.low
     c.hull.ensures.high
 
 -- endpoints that are cut to an octant that they meet

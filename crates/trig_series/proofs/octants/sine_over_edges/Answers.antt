@@ -15,7 +15,8 @@ returns c =
     let n = simp to_z-of_z at c.sine_over_octants.ensures.narrow in
     record {
       holds = simp to_z-of_z at c.sine_over_octants.ensures.holds;
-      narrow = few_or_many c.first_met.result c.last_met.result c.args.lo c.args.hi c.sine_over_octants.result.lo c.sine_over_octants.result.hi b e n;
+      narrow = few_or_many c.first_met.result c.last_met.result c.args.lo c.args.hi c.sine_over_octants.result.lo
+          c.sine_over_octants.result.hi b e n;
       small = simp to_z-of_z at c.sine_over_octants.ensures.small;
       crest = simp to_z-of_z at c.sine_over_octants.ensures.crest;
     }

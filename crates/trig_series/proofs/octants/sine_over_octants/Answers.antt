@@ -13,7 +13,13 @@ loop-octant-init c =
     let fl = c.ranges.lo in
     let fh = c.ranges.hi in
     let ff = c.ranges.first in
-    let fa : SFits w128 (c.args.first +ℤ pos 1) = omega (arith, ints, c.requires.above, c.requires.below, c.requires.several) in
+    let fa : SFits w128 (c.args.first +ℤ pos 1) = omega (
+      arith,
+      ints,
+      c.requires.above,
+      c.requires.below,
+      c.requires.several,
+    ) in
     let s = simp to_z-of_z at c.sine_over_degrees_in_octant-sine.ensures.holds in
     let n = simp to_z-of_z at c.sine_over_degrees_in_octant-sine.ensures.narrow in
     let e = simp to_z-of_z at c.sine_over_degrees_in_octant-sine.ensures.endpoints in
@@ -22,7 +28,8 @@ loop-octant-init c =
     record {
       begun = simp to_z-of_z (omega (arith, ints));
       within = simp to_z-of_z (omega (arith, ints, c.requires.several));
-      holds = simp to_z-of_z (λ n h. first_alone (in_octant n (units_of_56 c.args.lo) (units_of_56 c.args.hi)) _ c.args.first (s n h));
+      holds = simp to_z-of_z (λ n h. first_alone (in_octant n (units_of_56 c.args.lo) (units_of_56 c.args.hi)) _
+          c.args.first (s n h));
       narrow =
           simp to_z-of_z (first_narrow c.args.first c.args.lo c.args.hi _ _ c.sine_over_degrees_in_octant-sine.result.lo
           c.sine_over_degrees_in_octant-sine.result.hi refl refl c.requires.begun n);
@@ -37,7 +44,13 @@ loop-octant-preserved c =
     let fh = c.ranges.hi in
     let ff = c.ranges.first in
     let ft = c.ranges.last in
-    let fe : SFits w128 (c.args.last +ℤ pos 1) = omega (arith, ints, c.requires.above, c.requires.below, c.requires.several) in
+    let fe : SFits w128 (c.args.last +ℤ pos 1) = omega (
+      arith,
+      ints,
+      c.requires.above,
+      c.requires.below,
+      c.requires.several,
+    ) in
     let t = simp to_z-of_z at c.loop-octant-test.true in
     let i = simp to_z-of_z at c.loop-octant.invariant in
     let o = to_z w128 c.loop-octant.octant-bits in
@@ -52,17 +65,22 @@ loop-octant-preserved c =
       begun = simp to_z-of_z (omega (arith, ints, i.begun));
       within = simp to_z-of_z (omega (arith, ints, t));
       holds =
-          simp to_z-of_z (λ n h. next_holds n (units_of_56 c.args.lo) (units_of_56 c.args.hi) c.args.first o _ _ _ _ _ _ i.begun (i.holds n h) (s n h)
+          simp to_z-of_z (λ n h. next_holds n (units_of_56 c.args.lo) (units_of_56 c.args.hi) c.args.first o _ _ _ _ _ _
+          i.begun (i.holds n h) (s n h)
           c.hull-sine.ensures.low c.hull-sine.ensures.high);
       narrow = simp to_z-of_z (
           next_narrow o c.args.first c.args.lo c.args.hi _ _ _ _ _ _ _ (omega (arith, ints, i.begun, c.requires.ended))
           (omega (arith, ints, t, c.requires.reached))
-          (i.reached (omega (arith, ints, t, c.requires.reached))) (b (omega (arith, ints, i.begun, c.requires.ended))) c.hull-sine.ensures.low
+          (i.reached (omega (arith, ints, t, c.requires.reached))) (b (omega (arith, ints, i.begun, c.requires.ended)))
+          c.hull-sine.ensures.low
           c.hull-sine.ensures.high i.narrow n
           );
       reached =
-          simp to_z-of_z (λ u. edges_meet o _ _ (hull_at_second _ _ _ _ _ _ _ c.hull-sine.ensures.low c.hull-sine.ensures.high (e (omega (arith, ints, u)))));
-      small = simp to_z-of_z (λ a p q u. hull_around (pos 0) a _ _ _ _ _ _ c.hull-sine.ensures.low c.hull-sine.ensures.high (i.small a p q u) (m a p q u));
+          simp to_z-of_z
+          (λ u. edges_meet o _ _ (hull_at_second _ _ _ _ _ _ _ c.hull-sine.ensures.low c.hull-sine.ensures.high
+          (e (omega (arith, ints, u)))));
+      small = simp to_z-of_z (λ a p q u. hull_around (pos 0) a _ _ _ _ _ _ c.hull-sine.ensures.low
+          c.hull-sine.ensures.high (i.small a p q u) (m a p q u));
       crest = simp to_z-of_z (λ a p q u. hull_crest a _ _ _ c.hull-sine.ensures.low (i.crest a p q u) (r a p q u));
     }
 
@@ -72,15 +90,23 @@ returns c =
     let fh = c.ranges.hi in
     let ff = c.ranges.first in
     let ft = c.ranges.last in
-    let fe : SFits w128 (c.args.last +ℤ pos 1) = omega (arith, ints, c.requires.above, c.requires.below, c.requires.several) in
+    let fe : SFits w128 (c.args.last +ℤ pos 1) = omega (
+      arith,
+      ints,
+      c.requires.above,
+      c.requires.below,
+      c.requires.several,
+    ) in
     let i = simp to_z-of_z at c.loop-octant.invariant in
     let t = simp to_z-of_z at c.loop-octant-test.false in
     record {
       holds =
-          λ n h. over_holds n c.args.lo c.args.hi c.args.first c.args.last _ _ h c.requires.ordered c.requires.first c.requires.last
+          λ n h. over_holds n c.args.lo c.args.hi c.args.first c.args.last _ _ h c.requires.ordered c.requires.first
+          c.requires.last
           (λ k from to. i.holds n h k from (omega (arith, ints, t, to)));
       narrow =
-          last_narrow c.args.first c.args.last (to_z w128 c.loop-octant.octant-bits) c.args.lo c.args.hi c.loop-octant.sine.lo c.loop-octant.sine.hi
+          last_narrow c.args.first c.args.last (to_z w128 c.loop-octant.octant-bits) c.args.lo c.args.hi
+          c.loop-octant.sine.lo c.loop-octant.sine.hi
           (omega (arith, ints, t, i.within)) i.narrow;
       small = i.small;
       crest = i.crest;

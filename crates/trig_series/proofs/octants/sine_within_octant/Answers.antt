@@ -30,7 +30,8 @@ returns-clause-holds c =
     let fb = r.high in
     let v = simp to_z-of_z at c.octant_in_turn.ensures.value in
     let h = simp to_z-of_z at c.part_of_turn.ensures.holds in
-    λ n l. within_holds n c.args.octant c.octant_in_turn.result c.args.lo c.args.hi _ _ v c.requires.begun c.requires.ordered c.requires.ended
+    λ n l. within_holds n c.args.octant c.octant_in_turn.result c.args.lo c.args.hi _ _ v c.requires.begun
+    c.requires.ordered c.requires.ended
     (λ d y from to same. h n d y l from to same)
 
 pub returns-clause-narrow : goal.returns-clause-narrow
@@ -75,7 +76,8 @@ returns-clause-small c =
     let fb = r.high in
     let v = simp to_z-of_z at c.octant_in_turn.ensures.value in
     let p = simp to_z-of_z at c.part_of_turn.ensures.near in
-    part_small c.args.octant c.args.lo c.args.hi _ _ (turned_part c.args.octant c.octant_in_turn.result _ _ _ _ v p) c.requires.begun c.requires.ordered
+    part_small c.args.octant c.args.lo c.args.hi _ _ (turned_part c.args.octant c.octant_in_turn.result _ _ _ _ v p)
+    c.requires.begun c.requires.ordered
     c.requires.ended
 
 pub returns-clause-crest : goal.returns-clause-crest
@@ -91,5 +93,6 @@ returns-clause-crest c =
     let fb = r.high in
     let v = simp to_z-of_z at c.octant_in_turn.ensures.value in
     let p = simp to_z-of_z at c.part_of_turn.ensures.near in
-    part_crest c.args.octant c.args.lo c.args.hi _ _ (turned_part c.args.octant c.octant_in_turn.result _ _ _ _ v p) c.requires.begun c.requires.ordered
+    part_crest c.args.octant c.args.lo c.args.hi _ _ (turned_part c.args.octant c.octant_in_turn.result _ _ _ _ v p)
+    c.requires.begun c.requires.ordered
     c.requires.ended

@@ -14,12 +14,15 @@ returns-clause-holds c =
     let fs : SFits w128 (c.span_around-point.result.hi +ℤ c.most_moved.result) =
     omega (arith, ints, c.requires, c.most_moved.ensures.close, b.above, b.below, c.span_around-point.result.ordered) in
     simp to_z-of_z (λ n d y h from to same.
-    cosine_part_holds n d c.args.to c.cosine_of_degrees_56.result y c.span_around-point.result.lo c.span_around-point.result.hi c.most_moved.result h to
+    cosine_part_holds n d c.args.to c.cosine_of_degrees_56.result y c.span_around-point.result.lo
+    c.span_around-point.result.hi c.most_moved.result h to
     (omega (arith, c.requires)) (omega (arith, ints, c.most_moved.ensures.enough, from, c.requires))
     c.cosine_of_degrees_56.ensures.endpoints c.span_around-point.ensures.low c.span_around-point.ensures.high same)
 
 pub returns-clause-near : goal.returns-clause-near
 returns-clause-near c =
     let fp : SFits w128 c.span_around-point.result.lo = search rules in
-    simp to_z-of_z (cosine_part_near c.args.to c.cosine_of_degrees_56.result c.span_around-point.result.lo c.requires.octant
-    (c.cosine_of_degrees_56.ensures.endpoints 9 _ (omega arith) (by_lower c.args.to)) c.span_around-point.ensures.low_close)
+    simp to_z-of_z (cosine_part_near c.args.to c.cosine_of_degrees_56.result c.span_around-point.result.lo
+    c.requires.octant
+    (c.cosine_of_degrees_56.ensures.endpoints 9 _ (omega arith) (by_lower c.args.to))
+    c.span_around-point.ensures.low_close)

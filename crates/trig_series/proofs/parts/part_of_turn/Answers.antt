@@ -19,4 +19,5 @@ returns-then-octant-ge4-clause-near c =
     let fo = c.ranges.octant in
     let fm : SFits w128 (c.args.octant -ℤ pos 4) = omega (arith, ints, c.requires) in
     let h = simp to_z-of_z at c.part_of_half.ensures.near in
-    later_part c.args.octant c.args.from c.args.to _ _ _ _ (omega (arith, ints, c.if-octant-ge4.true)) c.opposite.ensures.low c.opposite.ensures.high h
+    later_part c.args.octant c.args.from c.args.to _ _ _ _ (omega (arith, ints, c.if-octant-ge4.true))
+    c.opposite.ensures.low c.opposite.ensures.high h

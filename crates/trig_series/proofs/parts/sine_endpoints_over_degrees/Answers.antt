@@ -14,7 +14,8 @@ returns-clause-holds c =
     let fs : SFits w128 (c.span_around-point.result.hi +ℤ c.most_moved.result) =
     omega (arith, ints, c.requires, c.most_moved.ensures.close, b.above, b.below, c.span_around-point.result.ordered) in
     simp to_z-of_z (λ n d y h from to same.
-    sine_part_holds n c.args.from d c.sine_of_degrees_56.result y c.span_around-point.result.lo c.span_around-point.result.hi c.most_moved.result h from
+    sine_part_holds n c.args.from d c.sine_of_degrees_56.result y c.span_around-point.result.lo
+    c.span_around-point.result.hi c.most_moved.result h from
     (omega (arith, c.requires, to)) (omega (arith, ints, c.most_moved.ensures.enough, to))
     c.sine_of_degrees_56.ensures.endpoints c.span_around-point.ensures.low c.span_around-point.ensures.high same)
 
@@ -26,7 +27,9 @@ returns-clause-near c =
     let b = c.span_around-point.ensures.room in
     let fs : SFits w128 (c.span_around-point.result.hi +ℤ c.most_moved.result) =
     omega (arith, ints, c.requires, c.most_moved.ensures.close, b.above, b.below, c.span_around-point.result.ordered) in
-    simp to_z-of_z (sine_part_near c.args.from c.args.to c.sine_of_degrees_56.result c.span_around-point.result.lo c.span_around-point.result.hi
-    c.most_moved.result c.requires.ordered c.requires.octant (omega (arith, ints, c.most_moved.ensures.close, c.requires))
+    simp to_z-of_z (sine_part_near c.args.from c.args.to c.sine_of_degrees_56.result c.span_around-point.result.lo
+    c.span_around-point.result.hi
+    c.most_moved.result c.requires.ordered c.requires.octant
+    (omega (arith, ints, c.most_moved.ensures.close, c.requires))
     (c.sine_of_degrees_56.ensures.endpoints 8 _ (omega arith) (by_lower c.args.from))
     c.span_around-point.ensures.low_close c.span_around-point.ensures.high_close)

@@ -8,7 +8,8 @@ pub to_fixed-requires : goal.to_fixed-requires
 to_fixed-requires g c =
     let date = c.args.fields.now in
     let major = within_limits Bahai date 0 (omega arith) c.requires.askable.0 in
-    let positive : to_z w32 c.field.result ≡ pos c.field.result = to_z_pos w32 c.field.result (omega (arith, c.field.ensures.field, major.high)) in
+    let positive : to_z w32 c.field.result ≡ pos c.field.result = to_z_pos w32 c.field.result
+    (omega (arith, c.field.ensures.field, major.high)) in
     record {
       askable = askable_again Bahai date _ (record {
         count = sym (counted Bahai date c.requires.askable.0);

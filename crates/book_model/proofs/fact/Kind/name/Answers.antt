@@ -7,4 +7,5 @@ use Rattle.book_model.proofs.fact.Kind.name.Goals as goal
 
 pub returns : goal.returns
 unfolding kind_name
-returns c = (rw c.number.ensures.number at c.name_at.ensures) ∙ sym (at_place KINDS (λ row. row.1.now) (kind_number c.args.self) [])
+returns c = (rw c.number.ensures.number at c.name_at.ensures)
+    ∙ sym (at_place KINDS (λ row. row.1.now) (kind_number c.args.self) [])

@@ -6,4 +6,5 @@ use Rattle.book_model.proofs.Rows.{at_place}
 use Rattle.book_model.proofs.fact.Kind.places.Goals as goal
 
 pub returns : goal.returns
-returns c = (rw c.number.ensures.number at c.list_at.ensures) ∙ sym (at_place KINDS (λ row. row.2.0.now) (kind_number c.args.self) [])
+returns c = (rw c.number.ensures.number at c.list_at.ensures)
+    ∙ sym (at_place KINDS (λ row. row.2.0.now) (kind_number c.args.self) [])

@@ -7,4 +7,5 @@ use Rattle.book_model.proofs.fact.Kind.since.Goals as goal
 
 pub returns : goal.returns
 unfolding kind_since
-returns c = (rw c.number.ensures.number at c.since_at.ensures) ∙ sym (at_place KINDS (λ row. row.2.2) (kind_number c.args.self) One)
+returns c = (rw c.number.ensures.number at c.since_at.ensures)
+    ∙ sym (at_place KINDS (λ row. row.2.2) (kind_number c.args.self) One)

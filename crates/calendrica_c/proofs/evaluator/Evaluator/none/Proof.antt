@@ -31,10 +31,12 @@ none_spec 𝓤 𝓛 𝓜 𝓡 wired =
     proved_at 𝓛 ended tt c 𝓜 𝓡 tt #self fn (code.unfolded 𝓤 H 𝓜 𝓡 wired) (λ z are.
     let Post : Val → SProp 𝓤 = (walk_of 𝓛 ended tt c).post z in
     let made : (evaluator.the_row).Denot = record { at = null_ptr; is_open = false } in
-    qed 𝓛 ((raw (alive 𝓛 ended.signature z.0.0 z.0.1) ⊛ ‵ (owns (types_at ended.signature.params z.0.0) z.0.3 z.0.4)) ∷ ‵ ftrue ∷ []) ∵ split ! $ keep ! (0 ∷ []) $
+    qed 𝓛 ((raw (alive 𝓛 ended.signature z.0.0 z.0.1) ⊛ ‵ (owns (types_at ended.signature.params z.0.0) z.0.3 z.0.4))
+    ∷ ‵ ftrue ∷ []) ∵ split ! $ keep ! (0 ∷ []) $
     enter ! C Λ fn [] Post $ alloc_all ! (λ l. pass_all ! refl tt $
     sets ! (agg ! (and_then ! (lit ! tt) (no_more !))) refl (word_typed null_ptr) $
     returns ! (look_at ! 0 refl) $ free_all ! refl $
     nothing ! $ use0 𝓛 (‵ (word_own null_ptr (word_val null_ptr ∷ []))) (word_made 𝓛 null_ptr) $ fjoin ! $
-    use0 𝓛 (raw (fact 𝓤 (false ≡ false))) (fact_i 𝓤 (false ≡ false) (emp 𝓤) refl) $ nothing ! $ move ! (3 ∷ 0 ∷ 2 ∷ 1 ∷ []) $
+    use0 𝓛 (raw (fact 𝓤 (false ≡ false))) (fact_i 𝓤 (false ≡ false) (emp 𝓤) refl) $ nothing ! $ move !
+    (3 ∷ 0 ∷ 2 ∷ 1 ∷ []) $
     by ! (leaves 𝓛 ended tt c z (word_val null_ptr) made tt tt)))

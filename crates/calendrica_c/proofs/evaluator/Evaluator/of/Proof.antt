@@ -20,7 +20,8 @@ use Rattle.std.proofs.alloc.Calls.{Goes-blank}
 use Rattle.std.proofs.raw_atomic.Walks.{proved_at, leaves}
 use Rattle.std.specs.contracts.alloc.Global as global
 use Rattle.std.specs.contracts.impls.GlobalAllocator.TheImpl.{ghosts}
-use Rattle.calendrica_c.proofs.Words.{ptr_typed, word_val, word_own, word_made, word_typed, pair_val, pair_told, pair_typed}
+use Rattle.calendrica_c.proofs.Words.{ptr_typed, word_val, word_own, word_made, word_typed, pair_val, pair_told}
+use Rattle.calendrica_c.proofs.Words.{pair_typed}
 use Rattle.calendrica_c.specs.contracts.kept.Kept as kept
 use Rattle.calendrica_c.specs.contracts.parts.Parts as parts
 use Rattle.calendrica_c.specs.contracts.evaluator.Evaluator as evaluator
@@ -35,12 +36,14 @@ of_spec 𝓤 𝓛 𝓜 𝓡 wired =
     let C = (tables 𝓤 H 𝓜 𝓡 𝓡.env).C in let Λ = (tables 𝓤 H 𝓜 𝓡 𝓡.env).Λ in
     let Row = parts.the_row kept.the_row global.the_row ghosts in
     let stays : Stays ended.signature.params ended.kept = (stay_dropped (plain (λ _. Row)) ended.kept.0, tt) in
-    proved_at 𝓛 ended stays c 𝓜 𝓡 (Goes-blank 𝓛 0 (plain (λ _. Row)) ended.kept.0 (λ κs x f. tt), tt) #self fn (code.unfolded 𝓤 H 𝓜 𝓡 wired) (λ z are.
+    proved_at 𝓛 ended stays c 𝓜 𝓡 (Goes-blank 𝓛 0 (plain (λ _. Row)) ended.kept.0 (λ κs x f. tt), tt) #self fn
+    (code.unfolded 𝓤 H 𝓜 𝓡 wired) (λ z are.
     let Post : Val → SProp 𝓤 = (walk_of 𝓛 ended stays c).post z in
     let x = z.0.3.0 in let p = x.ptr in
     let told = pair_told p x.alloc z.0.4.0 are.0.0 in
     let made : (evaluator.the_row).Denot = record { at = p; is_open = true } in
-    qed 𝓛 ((raw (alive 𝓛 ended.signature z.0.0 z.0.1) ⊛ ‵ (owns (types_at ended.signature.params z.0.0) z.0.3 z.0.4)) ∷ ‵ ftrue ∷ []) ∵ move ! (1 ∷ []) $ drop ! $ split ! $ move ! (1 ∷ []) $
+    qed 𝓛 ((raw (alive 𝓛 ended.signature z.0.0 z.0.1) ⊛ ‵ (owns (types_at ended.signature.params z.0.0) z.0.3 z.0.4))
+    ∷ ‵ ftrue ∷ []) ∵ move ! (1 ∷ []) $ drop ! $ split ! $ move ! (1 ∷ []) $
     fsplit ! $ fsplit ! $ drop ! $ move ! (1 ∷ []) $ drop ! $
     regoal ! (λ (us : List Val). prop (WpFn 𝓤 H C Λ fn us Post)) (λ i. told i ++ []) refl $
     enter ! C Λ fn (pair_val p ∷ []) Post $ alloc_all ! (λ l. pass_all ! refl (pair_typed p, tt) $
@@ -49,5 +52,6 @@ of_spec 𝓤 𝓛 𝓜 𝓡 wired =
     sets ! (agg ! (and_then ! (get ! refl) (no_more !))) refl (word_typed p) $
     returns ! (look_at ! 0 refl) $ free_all ! refl $
     use0 𝓛 (‵ (word_own p (word_val p ∷ []))) (word_made 𝓛 p) $ fjoin ! $
-    use0 𝓛 (raw (fact 𝓤 (true ≡ true))) (fact_i 𝓤 (true ≡ true) (emp 𝓤) refl) $ nothing ! $ nothing ! $ fjoin ! $ move ! (3 ∷ 0 ∷ 2 ∷ 1 ∷ []) $
+    use0 𝓛 (raw (fact 𝓤 (true ≡ true))) (fact_i 𝓤 (true ≡ true) (emp 𝓤) refl) $ nothing ! $ nothing ! $ fjoin ! $ move !
+    (3 ∷ 0 ∷ 2 ∷ 1 ∷ []) $
     by ! (leaves 𝓛 ended stays c z (word_val p) made (tt, tt) (tt, tt))))

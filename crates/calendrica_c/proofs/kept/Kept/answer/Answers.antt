@@ -5,5 +5,6 @@ use Rattle.calendrica_c.proofs.kept.Kept.answer.Goals as goal
 pub returns-in-Ok : goal.returns-in-Ok
 returns-in-Ok c = record {
   answered = answer_handed (answer_text c.args.line.now) _ c.answer.new.sink.bytes.items _ _ _ c.in-Ok.is_result _
-      (rw c.new-text.ensures.bytes at c.in-Ok.ensures.performs.ok) (rw (c.of.ensures.handed, c.bytes.ensures.bytes) at c.hand_as.ensures.handed);
+      (rw c.new-text.ensures.bytes at c.in-Ok.ensures.performs.ok)
+      (rw (c.of.ensures.handed, c.bytes.ensures.bytes) at c.hand_as.ensures.handed);
 }

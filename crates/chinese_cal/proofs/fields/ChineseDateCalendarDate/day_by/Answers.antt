@@ -10,7 +10,8 @@ to_fixed-requires g c =
     let date = c.args.fields.now in
     let cycle = within_limits Chinese date 0 (omega arith) c.requires.askable.0 in
     let leap = within_limits Chinese date 3 (omega arith) c.requires.askable.0 in
-    let positive : to_z w32 c.field.result ≡ pos c.field.result = to_z_pos w32 c.field.result (omega (arith, c.field.ensures.field, cycle.high)) in
+    let positive : to_z w32 c.field.result ≡ pos c.field.result = to_z_pos w32 c.field.result
+    (omega (arith, c.field.ensures.field, cycle.high)) in
     let one : c.field-4.result ≤ 1 = omega (arith, c.field-4.ensures.field, leap.high) in
     record {
       askable = askable_again Chinese date _ (record {

@@ -29,7 +29,8 @@ returns-clause-measured g c = λ p h e.
     let day : to_z w64 (of_z w64 (c.args.day -ℤ pos 1)) ≡ c.args.day -ℤ pos 1 = search rules in
     let q = rw (← c.self.view_is) at p in
     let m = rw (same, day) at c.in_ok-t.ensures.measured in
-    setting_within _ (c.universal.ensures.measured q.place (17 * 2 ^ 28) e (mean_local (17 * 2 ^ 28) _ (m (c.self.invariant.narrow e q) h e)))
+    setting_within _ (c.universal.ensures.measured q.place (17 * 2 ^ 28) e
+    (mean_local (17 * 2 ^ 28) _ (m (c.self.invariant.narrow e q) h e)))
 
 pub returns-in_err-t-clause-measured : goal.returns-in_err-t-clause-measured
 returns-in_err-t-clause-measured g c = λ p h e.

@@ -10,4 +10,10 @@ returns c =
     let f : SFits w64 c.args.value = c.ranges.value in
     let h = simp to_z-of_z at c.int_endpoints.ensures.holds in
     let n = simp to_z-of_z at c.int_endpoints.ensures.narrow in
-    record { encloses = record { holds = λ w d. within_integer shown_coarse w _ _ d h; narrow = λ r. narrow_integer coarse shown_coarse r _ _ n } }
+    record {
+      encloses = record {
+        holds = λ w d. within_integer shown_coarse w _ _ d h;
+        narrow = λ r. narrow_integer
+            coarse shown_coarse r _ _ n;
+      };
+    }

@@ -10,7 +10,8 @@ pub returns-in-Some-clause-holds : goal.returns-in-Some-clause-holds
 returns-in-Some-clause-holds c = λ q w x e.
     let f : SFits w64 c.in-Some.period = search rules in
     let p = known_period c.in-Some.period q _ c.args.modulus (sym c.in-Some.ensures.value) e in
-    rw p (within_remainder shown_coarse w c.args.modulus x c.in-Some.period _ _ (simp to_z-of_z at c.rest_of_period.ensures.holds))
+    rw p (within_remainder shown_coarse w c.args.modulus x c.in-Some.period _ _
+    (simp to_z-of_z at c.rest_of_period.ensures.holds))
 
 pub returns-in-Some-clause-narrow : goal.returns-in-Some-clause-narrow
 returns-in-Some-clause-narrow c = λ q r x h.

@@ -20,4 +20,5 @@ returns c =
     let l = simp to_z-of_z at c.floor_div-lo.ensures in
     let u = simp to_z-of_z at c.ceil_div-hi.ensures in
     let k = shows _ _ _ (simp to_z-of_z at c.endpoints_of.ensures.endpoints) in
-    rw c.in_ok-e.was (moved_outwards c.in_ok-e.e.lo c.in_ok-e.e.hi _ _ _ (omega (arith, ints, e, l.not_above)) (omega (arith, ints, f, u.not_below)) k)
+    rw c.in_ok-e.was (moved_outwards c.in_ok-e.e.lo c.in_ok-e.e.hi _ _ _ (omega (arith, ints, e, l.not_above))
+    (omega (arith, ints, f, u.not_below)) k)

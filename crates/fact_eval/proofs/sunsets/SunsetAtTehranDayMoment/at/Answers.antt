@@ -13,4 +13,5 @@ pub returns-clause-measured : goal.returns-clause-measured
 returns-clause-measured g c = λ e.
     let f : SFits w64 c.args.day = c.ranges.day in
     let m = rw c.self.invariant at (simp to_z-of_z at c.on.ensures.measured) in
-    moments_looser g.E.Enclosure.shown (9 * 2 ^ 29) (2 ^ 33) c.on.result (omega arith) (m tehran_is_narrow c.requires.day e)
+    moments_looser g.E.Enclosure.shown (9 * 2 ^ 29) (2 ^ 33) c.on.result (omega arith)
+    (m tehran_is_narrow c.requires.day e)

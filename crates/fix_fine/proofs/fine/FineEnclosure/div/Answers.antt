@@ -11,5 +11,6 @@ returns c = record {
     narrow = λ r x y.
         narrow_divide fine shown_fine r x y _ _ _ c.div_endpoints.ensures.narrow;
   };
-  table = quotient_of_endpoints c.args.self.endpoints c.args.other.endpoints c.div_endpoints.result c.div_endpoints.ensures.close c.div_endpoints.ensures.some;
+  table = quotient_of_endpoints c.args.self.endpoints c.args.other.endpoints c.div_endpoints.result
+      c.div_endpoints.ensures.close c.div_endpoints.ensures.some;
 }

@@ -11,5 +11,6 @@ returns c = record {
     narrow = λ r.
         narrow_constant fine shown_fine r _ _ c.endpoints_of_fraction.ensures.narrow;
   };
-  table = fraction_of_endpoints _ c.endpoints_of_fraction.result c.endpoints_of_fraction.ensures.narrow c.endpoints_of_fraction.ensures.close;
+  table = fraction_of_endpoints _ c.endpoints_of_fraction.result c.endpoints_of_fraction.ensures.narrow
+      c.endpoints_of_fraction.ensures.close;
 }

@@ -12,6 +12,10 @@ returns c =
     let h = simp to_z-of_z at c.int_endpoints.ensures.holds in
     let n = simp to_z-of_z at c.int_endpoints.ensures.narrow in
     record {
-      encloses = record { holds = λ w d. within_integer shown_fine w _ _ d h; narrow = λ r. narrow_integer fine shown_fine r _ _ n };
+      encloses = record {
+        holds = λ w d. within_integer shown_fine w _ _ d h;
+        narrow = λ r. narrow_integer fine
+            shown_fine r _ _ n;
+      };
       table = integer_of_endpoints c.args.value c.int_endpoints.result f n;
     }

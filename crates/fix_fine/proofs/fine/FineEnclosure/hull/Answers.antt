@@ -11,5 +11,6 @@ returns c = record {
         narrow_hull shown_fine _ r x y _ _ _ c.hull_endpoints.ensures.narrow;
   };
   tight = c.hull_endpoints.ensures.tight;
-  table = hull_of_endpoints c.args.self.endpoints c.args.other.endpoints c.hull_endpoints.result c.hull_endpoints.ensures.holds c.hull_endpoints.ensures.tight;
+  table = hull_of_endpoints c.args.self.endpoints c.args.other.endpoints c.hull_endpoints.result
+      c.hull_endpoints.ensures.holds c.hull_endpoints.ensures.tight;
 }

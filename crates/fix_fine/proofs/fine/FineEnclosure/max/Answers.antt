@@ -10,5 +10,6 @@ returns c = record {
     narrow = λ r x y.
         narrow_maximum shown_fine _ r x y _ _ _ c.max_endpoints.ensures.narrow;
   };
-  table = greater_of_endpoints c.args.self.endpoints c.args.other.endpoints c.max_endpoints.result c.max_endpoints.ensures.narrow;
+  table = greater_of_endpoints c.args.self.endpoints c.args.other.endpoints c.max_endpoints.result
+      c.max_endpoints.ensures.narrow;
 }

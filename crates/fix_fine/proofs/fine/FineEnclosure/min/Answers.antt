@@ -10,5 +10,6 @@ returns c = record {
     narrow = λ r x y.
         narrow_minimum shown_fine _ r x y _ _ _ c.min_endpoints.ensures.narrow;
   };
-  table = lesser_of_endpoints c.args.self.endpoints c.args.other.endpoints c.min_endpoints.result c.min_endpoints.ensures.narrow;
+  table = lesser_of_endpoints c.args.self.endpoints c.args.other.endpoints c.min_endpoints.result
+      c.min_endpoints.ensures.narrow;
 }

@@ -11,5 +11,6 @@ returns c = record {
     narrow = λ r x y.
         narrow_multiply fine shown_fine r x y _ _ _ c.mul_endpoints.ensures.narrow;
   };
-  table = product_of_endpoints c.args.self.endpoints c.args.other.endpoints c.mul_endpoints.result c.mul_endpoints.ensures.close c.mul_endpoints.ensures.some;
+  table = product_of_endpoints c.args.self.endpoints c.args.other.endpoints c.mul_endpoints.result
+      c.mul_endpoints.ensures.close c.mul_endpoints.ensures.some;
 }

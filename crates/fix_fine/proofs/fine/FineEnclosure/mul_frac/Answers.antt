@@ -11,5 +11,6 @@ returns c = record {
     narrow = λ r x.
         narrow_scale fine shown_fine r _ x _ _ c.scale_endpoints.ensures.narrow;
   };
-  table = factor_of_endpoints _ c.args.self.endpoints c.scale_endpoints.result c.scale_endpoints.ensures.close c.scale_endpoints.ensures.some;
+  table = factor_of_endpoints _ c.args.self.endpoints c.scale_endpoints.result c.scale_endpoints.ensures.close
+      c.scale_endpoints.ensures.some;
 }

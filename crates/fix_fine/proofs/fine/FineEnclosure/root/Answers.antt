@@ -12,5 +12,6 @@ returns c = record {
     narrow = λ r x.
         narrow_root_at fine shown_fine r x _ _ c.root_endpoints.ensures.narrow;
   };
-  table = root_of_endpoints c.args.self.endpoints c.root_endpoints.result c.root_endpoints.ensures.close c.root_endpoints.ensures.some;
+  table = root_of_endpoints c.args.self.endpoints c.root_endpoints.result c.root_endpoints.ensures.close
+      c.root_endpoints.ensures.some;
 }

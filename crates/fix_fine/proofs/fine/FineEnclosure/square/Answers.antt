@@ -11,5 +11,6 @@ returns c = record {
     narrow = λ r x.
         narrow_square fine shown_fine r x _ _ c.square_endpoints.ensures.narrow;
   };
-  table = square_of_endpoints c.args.self.endpoints c.square_endpoints.result c.square_endpoints.ensures.close c.square_endpoints.ensures.some;
+  table = square_of_endpoints c.args.self.endpoints c.square_endpoints.result c.square_endpoints.ensures.close
+      c.square_endpoints.ensures.some;
 }

@@ -11,5 +11,6 @@ returns c = record {
     narrow = λ r x.
         narrow_widen fine shown_fine r _ x _ _ c.widen_endpoints.ensures.narrow;
   };
-  table = widened_of_endpoints _ c.args.self.endpoints c.widen_endpoints.result c.widen_endpoints.ensures.narrow c.widen_endpoints.ensures.close;
+  table = widened_of_endpoints _ c.args.self.endpoints c.widen_endpoints.result c.widen_endpoints.ensures.narrow
+      c.widen_endpoints.ensures.close;
 }

@@ -11,7 +11,8 @@ to_fixed-requires g c =
     let year = within_limits HinduLunar date 0 (omega arith) c.requires.askable.0 in
     let leap_month = within_limits HinduLunar date 2 (omega arith) c.requires.askable.0 in
     let leap_day = within_limits HinduLunar date 4 (omega arith) c.requires.askable.0 in
-    let positive : to_z w32 c.field.result ≡ pos c.field.result = to_z_pos w32 c.field.result (omega (arith, c.field.ensures.field, year.high)) in
+    let positive : to_z w32 c.field.result ≡ pos c.field.result = to_z_pos w32 c.field.result
+    (omega (arith, c.field.ensures.field, year.high)) in
     let one_month : c.field-3.result ≤ 1 = omega (arith, c.field-3.ensures.field, leap_month.high) in
     let one_day : c.field-5.result ≤ 1 = omega (arith, c.field-5.ensures.field, leap_day.high) in
     record {

@@ -85,6 +85,7 @@ returns-clause-value c =
     let f4 = l.down in
     let f5 = l.rest in
     let f6 = l.sum in
-    let by_modulus : c.args.self -ℤ (c.from.result *ℤ c.args.period) *ℤ pos (2 ^ 56) ≡ c.args.self -ℤ (pos c.args.modulus *ℤ c.args.period)
+    let by_modulus : c.args.self -ℤ (c.from.result *ℤ c.args.period) *ℤ pos (2 ^ 56) ≡ c.args.self
+    -ℤ (pos c.args.modulus *ℤ c.args.period)
     *ℤ pos (2 ^ 56) = rw e refl in
     simp to_z-of_z (l.same ∙ by_modulus)

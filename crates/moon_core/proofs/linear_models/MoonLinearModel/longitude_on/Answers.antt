@@ -10,5 +10,6 @@ returns g c = record {
       let k = stretched c.requires.there h in
       let mean = c.quartic_by.ensures.holds w x h (c.self.invariant.higher w x (rw c.self.view_is k)).longitude in
       let ahead = c.mul_frac.ensures.encloses.holds w _ (c.inequalities_on.ensures.holds w x h) in
-      c.add-2.ensures.encloses.holds w _ _ (c.add.ensures.encloses.holds w _ _ mean ahead) (c.self.invariant.nutation w x (rw c.self.view_is k));
+      c.add-2.ensures.encloses.holds w _ _ (c.add.ensures.encloses.holds w _ _ mean ahead)
+      (c.self.invariant.nutation w x (rw c.self.view_is k));
 }

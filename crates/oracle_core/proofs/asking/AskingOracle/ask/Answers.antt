@@ -7,7 +7,8 @@ use Rattle.oracle_core.proofs.asking.AskingOracle.ask.Goals as goal
 
 pub item-requires : goal.item-requires
 item-requires g c = record {
-  within = place_within _ c.args.fact _ (place_among_facts _ c.args.fact _ (rw c.entries.ensures.entries at c.in-Some.ensures.place));
+  within = place_within _ c.args.fact _
+      (place_among_facts _ c.args.fact _ (rw c.entries.ensures.entries at c.in-Some.ensures.place));
 }
 
 pub returns-in-Some : goal.returns-in-Some
@@ -22,5 +23,7 @@ returns-in-Some g c =
 
 pub evaluate-requires : goal.evaluate-requires
 evaluate-requires g c = record {
-  new = not_there (fact_eq c.args.fact) _ (rw c.self.view_is at (place_among_facts _ c.args.fact _ (rw c.entries.ensures.entries at c.in-None.ensures.place)));
+  new = not_there (fact_eq c.args.fact) _
+      (rw c.self.view_is at
+      (place_among_facts _ c.args.fact _ (rw c.entries.ensures.entries at c.in-None.ensures.place)));
 }

@@ -12,13 +12,16 @@ at_error (Err e) h = h
 
 pub returns-in-Some-clause-ok : goal.returns-in-Some-clause-ok
 returns-in-Some-clause-ok c =
-    let here : list_any (fact_eq c.args.fact) c.args.self.now ≡ true = there (fact_eq c.args.fact) c.args.self.now _ c.in-Some.ensures.place in
+    let here : list_any (fact_eq c.args.fact) c.args.self.now ≡ true = there (fact_eq c.args.fact) c.args.self.now _
+    c.in-Some.ensures.place in
     rw here refl
 
 pub returns-in-None-clause-ok : goal.returns-in-None-clause-ok
 returns-in-None-clause-ok c =
-    let new : list_any (fact_eq c.args.fact) c.args.self.now ≡ false = not_there (fact_eq c.args.fact) c.args.self.now c.in-None.ensures.place in
+    let new : list_any (fact_eq c.args.fact) c.args.self.now ≡ false = not_there (fact_eq c.args.fact) c.args.self.now
+    c.in-None.ensures.place in
     rw new (rw c.self.view_is at c.push.ensures.ok)
 
 pub returns-in-None-clause-new : goal.returns-in-None-clause-new
-returns-in-None-clause-new c = at_error c.push.result (not_there (fact_eq c.args.fact) c.args.self.now c.in-None.ensures.place)
+returns-in-None-clause-new c = at_error c.push.result
+    (not_there (fact_eq c.args.fact) c.args.self.now c.in-None.ensures.place)

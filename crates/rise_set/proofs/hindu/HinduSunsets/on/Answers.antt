@@ -21,7 +21,8 @@ pub returns-in_err-t-clause-leads : goal.returns-in_err-t-clause-leads
 unfolding hindu_sunset_of
 returns-in_err-t-clause-leads g c = λ w d.
     let f : SFits w64 c.args.day = c.ranges.day in
-    let l = rw c.self.invariant.0 at (simp to_z-of_z at (c.in_err-t.ensures.leads w _ (c.self.invariant.1.holds w d))) in
+    let l = rw c.self.invariant.0 at (simp to_z-of_z at (c.in_err-t.ensures.leads w _ (c.self.invariant.1.holds w d)))
+    in
     let fails = err_from_is_err_and c.from_residual.result c.from_residual.ensures.1 in
     rw (fails.1, fails.2) (leads_fail _ l)
 
@@ -30,7 +31,8 @@ returns-clause-measured g c = λ h e.
     let f : SFits w64 c.args.day = c.ranges.day in
     let p : IsNarrowLocation c.self.inside.horizon.location = rw c.self.invariant.0 ujjain_is_narrow in
     let m = simp to_z-of_z at c.in_ok-t.ensures.measured in
-    setting_within _ (c.universal.ensures.measured p.place (17 * 2 ^ 28) e (mean_local (17 * 2 ^ 28) _ (m (c.self.invariant.1.narrow e p) h e)))
+    setting_within _ (c.universal.ensures.measured p.place (17 * 2 ^ 28) e
+    (mean_local (17 * 2 ^ 28) _ (m (c.self.invariant.1.narrow e p) h e)))
 
 pub returns-in_err-t-clause-measured : goal.returns-in_err-t-clause-measured
 returns-in_err-t-clause-measured g c = λ h e.
@@ -42,7 +44,8 @@ returns-in_err-t-clause-measured g c = λ h e.
 
 pub returns-clause-recent : goal.returns-clause-recent
 returns-clause-recent g c = λ h k e.
-    recent_found g.E.Enclosure.shown (at_depth 40) (9 * 2 ^ 29) (c.args.day -ℤ pos 25) (c.args.day +ℤ pos 38) (hindu_sunset_of c.args.day) c.universal.result
+    recent_found g.E.Enclosure.shown (at_depth 40) (9 * 2 ^ 29) (c.args.day -ℤ pos 25) (c.args.day +ℤ pos 38)
+    (hindu_sunset_of c.args.day) c.universal.result
     (omega arith) (omega (arith, ints, h)) (sunset_near (at_depth 40) c.args.day)
     (returns-clause-leads g c (at_depth 40) (omega arith)) (returns-clause-measured g c (omega (arith, ints, h), k) e)
 

@@ -27,7 +27,8 @@ returns-clause-measured g c = λ p h e.
     let f : SFits w64 c.args.day = c.ranges.day in
     let q = rw (← c.self.view_is) at p in
     let m = simp to_z-of_z at c.in_ok-t.ensures.measured in
-    setting_within _ (c.universal.ensures.measured q.place (17 * 2 ^ 28) e (mean_local (17 * 2 ^ 28) _ (m (c.self.invariant.narrow e q) h e)))
+    setting_within _ (c.universal.ensures.measured q.place (17 * 2 ^ 28) e
+    (mean_local (17 * 2 ^ 28) _ (m (c.self.invariant.narrow e q) h e)))
 
 pub returns-in_err-t-clause-measured : goal.returns-in_err-t-clause-measured
 returns-in_err-t-clause-measured g c = λ p h e.

@@ -9,4 +9,7 @@ pub returns : goal.returns
 returns c =
     let fa : SFits w128 c.args.span.lo = search rules in
     let fb : SFits w128 c.args.span.hi = search rules in
-    record { holds = within_trans (simp to_z-of_z at c.endpoints_of_span.ensures.holds) c.roughened.ensures; narrow = λ w b h. narrow_endpoints w b _ }
+    record {
+      holds = within_trans (simp to_z-of_z at c.endpoints_of_span.ensures.holds) c.roughened.ensures;
+      narrow = λ w b h. narrow_endpoints w b _;
+    }
