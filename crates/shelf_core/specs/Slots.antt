@@ -1,5 +1,6 @@
--- The slots of a shelf: one for each row of facts and each day of which a fact may have a value, in blocks.
-use Rattle.std.specs.Prelude.{ℕ, ◌+◌, ◌*◌, ◌/◌, ℤ, pos, negsuc, ◌-ℤ◌}
+-- The slots of a shelf: one for each row of facts and each day of which a fact may have a value, in blocks, and the
+-- blocks in bays.
+use Rattle.std.specs.Prelude.{ℕ, ◌+◌, ◌*◌, ◌/◌, ◌%◌, ℤ, pos, negsuc, ◌-ℤ◌}
 use Rattle.book_model.specs.declared.fact.Fact.{Fact}
 use Rattle.book_model.specs.declared.fact.TheConstants.{FIRST_DAY, LAST_DAY}
 use Rattle.shelf_core.specs.Rows.{fact_rows, row_of}
@@ -21,10 +22,24 @@ slot_count = fact_rows * shelf_days
 unfoldable pub slot_of : Fact → ℕ
 slot_of f = row_of f.kind f.place * shelf_days + natural (f.day -ℤ FIRST_DAY)
 
--- how many slots a block has
+-- how many slots a block has, and how many blocks a bay
 abbrev pub BLOCK : ℕ
 BLOCK = 256
 
--- how many blocks there are
-unfoldable pub block_count : ℕ
-block_count = slot_count / BLOCK + 1
+-- how many slots a bay has
+abbrev pub BAY : ℕ
+BAY = 65536
+
+-- how many bays there are
+unfoldable pub bay_count : ℕ
+bay_count = slot_count / BAY + 1
+
+-- the places of a fact's bay, of its block in the bay and of its slot in the block
+abbrev pub bay_of : Fact → ℕ
+bay_of f = slot_of f / BAY
+
+abbrev pub block_of : Fact → ℕ
+block_of f = slot_of f / BLOCK % BLOCK
+
+abbrev pub place_of : Fact → ℕ
+place_of f = slot_of f % BLOCK

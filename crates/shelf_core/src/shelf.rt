@@ -1,8 +1,8 @@
 //! The slots, and the passes by which they are read and set.
-ghost use Rattle.std.specs.Prelude.{◌≡◌, ◌<◌, ◌/◌, ◌%◌, vec_len};
+ghost use Rattle.std.specs.Prelude.{◌≡◌, ◌<◌, ◌/◌, vec_len};
 ghost use Rattle.book_model.specs.sky.Facts.{IsValueDay};
 ghost use Rattle.shelf_core.specs.Rows.{first_rows as first_rows_from, place_lists};
-ghost use Rattle.shelf_core.specs.Slots.{slot_of, slot_count, block_count, BLOCK as SLOTS};
+ghost use Rattle.shelf_core.specs.Slots.{slot_of, slot_count, bay_count, bay_of as bay_of_fact, block_of, place_of, BLOCK as CELLS, BAY as SLOTS};
 
 use crate::Entry;
 use crate::block::{BLOCK, Block};
@@ -16,14 +16,21 @@ use std::alloc::{AllocError, Global};
 /// The days of a shelf: those of which a fact may have a value.
 const DAYS: usize = (LAST_DAY - FIRST_DAY + 1) as usize;
 
+/// How many slots a bay has.
+const BAY: usize = BLOCK * BLOCK;
+
+/// Blocks of slots that stand side by side.
+pub(crate) type Bay = Block<Block<Entry>>;
+
 /// A slot for each kind, place and day of which a fact may have a value. A slot is set once, to an entry, and then stays. It
-/// stands in a block of 256, which is made when the first of its slots is set. Threads share a shelf by `&`, and no call waits.
+/// stands in a block of 256, and the block in a bay of as many blocks; each is made when the first of its slots is set. Threads
+/// share a shelf by `&`, and no call waits.
 #[derive(Drop)]
 pub struct Shelf {
-    pub(crate) blocks: Vec<OnceBox<Block>>,
+    pub(crate) bays: Vec<OnceBox<Bay>>,
     /// The first row of each kind, which is counted when the shelf is opened.
     pub(crate) first_rows: Vec<usize>,
-    ghost whole: { vec_len blocks ≡ block_count },
+    ghost whole: { vec_len bays ≡ bay_count },
     ghost counted: { first_rows.items ≡ first_rows_from 0 place_lists },
 }
 
@@ -33,44 +40,53 @@ pub struct Pass {
     pub(crate) fact: Fact,
     /// The number of the fact's slot, which is computed once.
     slot: usize,
-    pub(crate) block: Note<Block>,
+    pub(crate) bay: Note<Bay>,
+    pub(crate) block: Option<Note<Block<Entry>>>,
     pub(crate) entry: Option<Note<Entry>>,
     ghost in_reach: { IsValueDay fact.day },
     ghost numbered: { slot ≡ slot_of fact },
     ghost within: { slot < slot_count },
 }
 
-/// The number of blocks.
-#[tactic(auto, unfolding(crate::specs::Slots::slot_count, crate::specs::Slots::block_count))]
-fn block_count_of() -> usize
-    ensures count { result ≡ block_count }
+/// The number of bays.
+#[tactic(auto, unfolding(crate::specs::Slots::slot_count, crate::specs::Slots::bay_count))]
+fn bay_count_of() -> usize
+    ensures count { result ≡ bay_count }
 {
-    fact_rows() * DAYS / BLOCK + 1
+    fact_rows() * DAYS / BAY + 1
 }
 
-/// The place of the block of a slot with this number.
-#[tactic(auto, unfolding(crate::specs::Slots::block_count))]
-fn block_of(slot: usize) -> usize
+/// The place of the bay of a slot with this number.
+#[tactic(auto, unfolding(crate::specs::Slots::bay_count))]
+fn bay_of(slot: usize) -> usize
     requires within { slot < slot_count }
     ensures number { result ≡ slot / SLOTS }
-    ensures within { result < block_count }
+    ensures within { result < bay_count }
 {
-    slot / BLOCK
+    slot / BAY
 }
 
 impl Pass {
-    /// The place of the fact's block.
-    fn block_number(&self) -> usize
-        ensures number { result ≡ slot_of self.now.fact / SLOTS }
-        ensures within { result < block_count }
+    /// The place of the fact's bay.
+    fn bay_number(&self) -> usize
+        ensures number { result ≡ bay_of_fact self.now.fact }
+        ensures within { result < bay_count }
     {
-        block_of(self.slot)
+        bay_of(self.slot)
+    }
+
+    /// The place of the fact's block in its bay.
+    fn place_in_bay(&self) -> usize
+        ensures number { result ≡ block_of self.now.fact }
+        ensures within { result < CELLS }
+    {
+        self.slot / BLOCK % BLOCK
     }
 
     /// The place of the fact's slot in its block.
     fn place_in_block(&self) -> usize
-        ensures number { result ≡ slot_of self.now.fact % SLOTS }
-        ensures within { result < SLOTS }
+        ensures number { result ≡ place_of self.now.fact }
+        ensures within { result < CELLS }
     {
         self.slot % BLOCK
     }
@@ -84,13 +100,13 @@ impl Shelf {
     ghost use Rattle.shelf_core.specs.Passes.{IsPassOf, seen};
     ghost use Rattle.shelf_core.specs.Shelves.{IsStep};
 
-    /// A shelf whose slots are empty. It takes a place for each block and a number for each kind, and no block. The error comes
+    /// A shelf whose slots are empty. It takes a place for each bay and a number for each kind, and no bay. The error comes
     /// where memory runs out.
     pub fn open(alloc: Global) -> Result<Shelf, AllocError> {
-        let mut blocks = Vec::new(alloc);
-        blocks.resize_with(block_count_of(), move || OnceBox::new(alloc))?;
+        let mut bays = Vec::new(alloc);
+        bays.resize_with(bay_count_of(), move || OnceBox::new(alloc))?;
         let first_rows = first_rows(alloc)?;
-        Ok(Shelf { blocks, first_rows })
+        Ok(Shelf { bays, first_rows })
     }
 
     /// The number of a fact's slot.
@@ -114,11 +130,12 @@ impl Shelf {
     {
         if FIRST_DAY <= fact.day() && fact.day() <= LAST_DAY {
             let slot = self.slot_number(fact);
-            let block = self.blocks[block_of(slot)].note();
+            let bay = self.bays[bay_of(slot)].note();
             Some(Pass {
                 fact,
                 slot,
-                block,
+                bay,
+                block: None,
                 entry: None,
             })
         } else {
@@ -135,10 +152,12 @@ impl Shelf {
         ensures some { IfSome result (λ e. (seen pass.new ≡ Some e) × Agrees (seen pass.old) e) }
         ensures none { IfNone result ((seen pass.old ≡ None) × (seen pass.new ≡ None)) }
     {
-        let block = self.blocks[pass.block_number()].get_as(&mut pass.block)?;
-        let (note, entry) = block.look(pass.place_in_block(), pass.entry.take());
+        let bay = self.bays[pass.bay_number()].get_as(&mut pass.bay)?;
+        let (note, block) = bay.look(pass.place_in_bay(), pass.block.take());
+        pass.block = Some(note);
+        let (note, entry) = block?.look(pass.place_in_block(), pass.entry.take());
         pass.entry = Some(note);
-        entry
+        Some(*entry?)
     }
 
     /// Sets the fact's slot, where it is empty, to the entry of the pass's fact and this answer, and gives the slot's entry,
@@ -154,12 +173,19 @@ impl Shelf {
         ensures err { OnErr result (seen pass.new ≡ seen pass.old) }
     {
         let entry = Entry::new(pass.fact, answer);
-        let made = &self.blocks[pass.block_number()];
-        let block = made.get_or_try_init_as(move || Block::boxed(alloc), &mut pass.block)?;
+        let made = &self.bays[pass.bay_number()];
+        let bay = made.get_or_try_init_as(move || Block::boxed(alloc), &mut pass.bay)?;
+        let place = pass.place_in_bay();
+        let (note, block) = bay.put(place, pass.block.take(), move || Block::boxed(alloc));
+        pass.block = Some(note);
         let place = pass.place_in_block();
-        let (note, filled) = block.put(alloc, place, pass.entry.take(), entry);
+        let (note, filled) = block?.put(
+            place,
+            pass.entry.take(),
+            move || Ok(Box::new(alloc, entry)?),
+        );
         pass.entry = Some(note);
-        filled
+        Ok(*filled?)
     }
 
     /// Two passes of one fact that have both seen an entry have seen the same one. It does nothing.
@@ -170,8 +196,11 @@ impl Shelf {
         ensures same { IfSome (seen other.now) (Agrees (seen one.now)) }
     {
         if let (Some(first), Some(second)) = (&one.entry, &other.entry) {
-            know_the_same(&one.block, &other.block);
-            know_the_same(first, second);
+            if let (Some(first_block), Some(second_block)) = (&one.block, &other.block) {
+                know_the_same(&one.bay, &other.bay);
+                know_the_same(first_block, second_block);
+                know_the_same(first, second);
+            }
         }
     }
 

@@ -5,6 +5,6 @@ use Rattle.shelf_core.proofs.shelf.Shelf.fill.Goals as goal
 
 pub get_or_try_init_as-requires-clause-cell : goal.get_or_try_init_as-requires-clause-cell
 get_or_try_init_as-requires-clause-cell c =
-    let read = read_at (λ cell. cell_name cell) _ c.block_number.result c.index-made.result.now (search rules)
+    let read = read_at (λ cell. cell_name cell) _ c.bay_number.result c.index-made.result.now (search rules)
     c.index-made.ensures in
-    c.requires.of_shelf.block ∙ rw c.block_number.ensures.number at read
+    c.requires.of_shelf.bay ∙ rw c.bay_number.ensures.number at read
