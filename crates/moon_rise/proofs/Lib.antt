@@ -1,5 +1,7 @@
 pub mod Crossings
 pub mod Quarters
+pub mod Replays
+pub mod Between
 pub mod Orders
 pub mod DayMoments
 pub mod Measured

@@ -2,3 +2,4 @@ pub mod Crossings
 pub mod Computed
 pub mod Moments
 pub mod Widths
+pub mod SteadyIntervals

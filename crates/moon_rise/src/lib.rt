@@ -4,7 +4,7 @@
 //!
 //! - `distance`: in kilometres; `observed`: the altitude at which the moon's upper edge is seen;
 //! - `moonrise`, `moonset`: a day is walked in quarters of an hour, and the first in which the moon comes over the horizon, or goes below
-//!   it, is halved four times;
+//!   it, is halved four times; quarters in which it can't are passed over, by one altitude over hours;
 //! - `laws`: what a minute that is found says.
 //!
 //! Three numbers are computed in another order than defined, since an enclosure can't hold the parts of the defined
@@ -17,6 +17,7 @@ mod distances;
 pub mod laws;
 mod moments;
 mod rises;
+mod steady_intervals;
 mod walk;
 
 pub use altitudes::observed;

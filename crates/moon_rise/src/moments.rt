@@ -7,7 +7,7 @@ ghost use Rattle.moon_rise.specs.Computed as computed;
 ghost use Rattle.book_model.specs.sky.Moonrise.{moment_of};
 ghost use Rattle.moon_rise.specs.Moments.{AreHours, HasOneYear};
 ghost use Rattle.moon_rise.specs.Widths.{IsExact};
-ghost use Rattle.std.specs.Prelude.{◌≡◌, ◌≤◌};
+ghost use Rattle.std.specs.Prelude.{◌≡◌, ◌≤◌, ℕ};
 
 use book_model::{Frac, Place};
 use encl_core::Enclosure;
@@ -55,4 +55,15 @@ pub(crate) fn moment_at<E: Enclosure>(place: Place, day: i64, moment: u32) -> E
     ensures in_year { 36 ≤ E.BITS → E.BITS ≤ 56 → IsValueDay day → HasOneYear (E.shown result) }
 {
     moment_by::<E>(zone_on(place, day), day, moment)
+}
+
+/// The moments of a day (R.D.) at a place, in universal time, from the one of a number to the one of another.
+#[tactic(auto, using(crate::proofs::DayMoments::hours_small))]
+pub(crate) fn moments_over<E: Enclosure>(place: Place, day: i64, from: u32, to: u32) -> E
+    requires order { from ≤ to }
+    requires few { to ≤ 1536 }
+    ensures holds { (i : ℕ) → from ≤ i → i ≤ to → Holds E.shown (moment_of place day i) result }
+{
+    let zone = zone_on(place, day);
+    moment_by::<E>(zone, day, from).hull(moment_by::<E>(zone, day, to))
 }

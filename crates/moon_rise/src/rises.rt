@@ -11,7 +11,7 @@ ghost use Rattle.std.specs.Prelude.{◌≡◌, ◌≤◌, pos, negsuc, ◌≤ℤ
 ghost use Rattle.time_scales.specs.Steps.{IsNotOfYear};
 
 use crate::altitudes::is_up;
-use crate::moments::moment_at;
+use crate::moments::{moment_at, moments_over};
 use crate::walk::{MomentTest, crossing};
 use book_model::{Fail, Location, Place, Site};
 use encl_core::{Enclosure, Trail};
@@ -34,6 +34,11 @@ impl<E: Enclosure> MomentTest<E> for MoonUp {
         let t = moment_at::<E>(self.place, self.day, moment);
         is_up(&self.location, t, trail)
     }
+
+    fn holds_over(&self, from: u32, to: u32, trail: &mut Trail) -> Result<bool, Fail> {
+        let interval_of_days = moments_over::<E>(self.place, self.day, from, to);
+        is_up(&self.location, interval_of_days, trail)
+    }
 }
 
 /// The opposite of a test.
@@ -51,6 +56,11 @@ impl<E: Enclosure, T: MomentTest<E>> MomentTest<E> for Opposite<T> {
     fn holds(&self, moment: u32, trail: &mut Trail) -> Result<bool, Fail> {
         let so = self.test.holds(moment, trail)?;
         Ok(!so)
+    }
+
+    fn holds_over(&self, from: u32, to: u32, trail: &mut Trail) -> Result<bool, Fail> {
+        let everywhere = self.test.holds_over(from, to, trail)?;
+        Ok(!everywhere)
     }
 }
 

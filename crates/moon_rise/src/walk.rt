@@ -3,9 +3,11 @@ ghost use Rattle.book_model.specs.programs.Calls.{Decides};
 ghost use Rattle.book_model.specs.programs.Widths.{IsClose};
 ghost use Rattle.book_model.specs.programs.Programs.{Program};
 ghost use Rattle.book_model.specs.programs.Crossings as spec;
-ghost use Rattle.std.specs.Prelude.{◌≡◌, ◌<◌, ◌≤◌, ◌+◌, ◌*◌, ℕ, Bool, pos, negsuc, ◌≤ℤ◌, IfErr, IfOk};
+ghost use Rattle.moon_rise.specs.SteadyIntervals.{HasOneAnswer};
+ghost use Rattle.std.specs.Prelude.{◌≡◌, ◌<◌, ◌≤◌, ◌+◌, ◌*◌, ℕ, Bool, Ok, pos, negsuc, ◌≤ℤ◌, IfErr, IfOk};
 ghost use Rattle.time_scales.specs.Steps.{IsNotOfYear};
 
+use crate::steady_intervals::{SteadyInterval, holds_at};
 use book_model::Fail;
 use encl_core::{Enclosure, Trail};
 
@@ -34,6 +36,14 @@ pub(crate) trait MomentTest<E: Enclosure> {
         ensures leads { Decides (test_of self.now moment) trail.old.count trail.new.count result }
         ensures close { is_kept self.now → E.BITS ≡ 56 → IfErr result IsClose }
         ensures dated { is_kept self.now → 36 ≤ E.BITS → E.BITS ≤ 56 → IfErr result IsNotOfYear };
+
+    /// The same at every moment from one to another at once. Where it answers it has made the tests of each of them; a failure says
+    /// nothing of any.
+    fn holds_over(&self, from: u32, to: u32, trail: &mut Trail) -> Result<bool, Fail>
+        requires order { from ≤ to }
+        requires few { to ≤ 1536 }
+        ensures leads { IfOk result (λ so. (i : ℕ) → from ≤ i → i ≤ to
+            → Decides (test_of self.now i) trail.old.count trail.new.count (Ok so)) };
 }
 
 /// It isn't so at the first of two moments and is so at the second: where they are halved so many times, the first of the two that are
@@ -101,16 +111,18 @@ fn minute_in<E: Enclosure, T: MomentTest<E>>(
 }
 
 /// Of so many quarters of an hour from one on, at whose beginning it is so or isn't, the minute in the first in which it becomes so, or
-/// -1.
+/// -1. Quarters within an interval of one answer are passed over.
 #[tactic(auto, using(book_model::proofs::Leads::leading, crate::proofs::Quarters::quarters))]
 fn crossing_from<E: Enclosure, T: MomentTest<E>>(
     more: u32,
     test: &T,
+    known: &mut SteadyInterval,
     quarter: u32,
     before: bool,
     trail: &mut Trail,
 ) -> Result<i64, Fail>
     requires within { quarter + more ≤ 96 }
+    requires known { HasOneAnswer (T.test_of test.now) known.old }
     ensures leads { Decides (spec.crossing_from more (T.test_of test.now) quarter before)
         trail.old.count trail.new.count result }
     ensures close { T.is_kept test.now → E.BITS ≡ 56 → IfErr result IsClose }
@@ -121,15 +133,15 @@ fn crossing_from<E: Enclosure, T: MomentTest<E>>(
     if more == 0 {
         return Ok(-1);
     }
-    let after = test.holds(SIXTEENTHS * quarter + SIXTEENTHS, trail)?;
+    let after = holds_at::<E, T>(test, known, SIXTEENTHS * quarter + SIXTEENTHS, trail)?;
     if !before && after {
         minute_in::<E, T>(test, quarter, trail)
     } else {
-        crossing_from::<E, T>(more - 1, test, quarter + 1, after, trail)
+        crossing_from::<E, T>(more - 1, test, known, quarter + 1, after, trail)
     }
 }
 
-/// The minute of the day at which it first becomes so, or -1: 101 moments at most.
+/// The minute of the day at which it first becomes so, or -1: the tests of 101 moments at most.
 #[tactic(auto, using(book_model::proofs::Leads::leading), unfolding(book_model::specs::programs::Crossings::crossing_of))]
 pub(crate) fn crossing<E: Enclosure, T: MomentTest<E>>(
     test: &T,
@@ -142,6 +154,7 @@ pub(crate) fn crossing<E: Enclosure, T: MomentTest<E>>(
     ensures low { IfOk result (λ v. negsuc 0 ≤ℤ v) }
     ensures high { IfOk result (λ v. v ≤ℤ pos 1440) }
 {
-    let before = test.holds(0, trail)?;
-    crossing_from::<E, T>(QUARTERS, test, 0, before, trail)
+    let mut known = SteadyInterval::empty();
+    let before = holds_at::<E, T>(test, &mut known, 0, trail)?;
+    crossing_from::<E, T>(QUARTERS, test, &mut known, 0, before, trail)
 }
