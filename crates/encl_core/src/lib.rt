@@ -10,7 +10,7 @@
 //! - `first_day`: the search for the first day of which a `DayTest` is true;
 //! - `lies_within`: whether an enclosure lies within another;
 //! - `greatest_widths`: how wide the results of formulas are at most, a row for each;
-//! - `parts`, `high_half`, `modulo`, `amod`: of `interval_endpoints`, re-exported to the formulas above.
+//! - `parts`, `shr_floor`, `high_half`, `modulo`, `amod`: of `interval_endpoints`, re-exported to the formulas above.
 //!
 //! Widths through tests are said at the scale 2⁻⁵⁶ alone, for all widths of the argument (`Measured` of `Widths.antt`). That a
 //! failure's bounds are close doesn't speak of the program, and so passes through `?`. Lemmas lead from the computed bound of an
@@ -37,7 +37,7 @@ pub use asked::Asked;
 pub use circle::pi;
 pub use coarse::Coarse;
 pub use enclosure::Enclosure;
-pub use interval_endpoints::{amod, high_half, modulo, parts};
+pub use interval_endpoints::{amod, high_half, modulo, parts, shr_floor};
 pub use search::{DayTest, first_day};
 pub use span::Span;
 pub use steps::{floor_step, less_step, wrap_step};

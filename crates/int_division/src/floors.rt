@@ -5,6 +5,8 @@
 ghost use Rattle.std.specs.Prelude.{◌≡◌, ◌^◌, ◌<◌, ◌+ℤ◌, pos, ◌≤ℤ◌, ◌<ℤ◌, ◌-ℤ◌, ◌*ℤ◌, int_div, IfSome};
 ghost use Rattle.int_division.specs.Rounding.{IsFloor, IsCeiling};
 
+use crate::shifts::shr_floor;
+
 /// The number in 64 bits, where it fits.
 #[inline(always)]
 fn as_64_bits(n: i128) -> Option<i64>
@@ -26,7 +28,7 @@ fn natural_floor(n: i64, d: i64) -> i64
 
 /// The quotient of `n` by `d`, rounded down, in 64 bits. By a constant it is a multiplication.
 #[inline(always)]
-pub fn floor_64(n: i64, d: i64) -> i64
+pub fn floor_div_i64(n: i64, d: i64) -> i64
     requires { pos 0 <ℤ d }
     ensures { IsFloor result n d }
 {
@@ -45,7 +47,7 @@ fn floor_in_64_bits(n: i128, d: i128) -> Option<i64>
 {
     let n = as_64_bits(n)?;
     let d = as_64_bits(d)?;
-    Some(floor_64(n, d))
+    Some(floor_div_i64(n, d))
 }
 
 // Below 2³⁵, so that the rest and 29 further bits fit 64.
@@ -87,14 +89,6 @@ fn rest_of(number: i64, times: i64, d: i64) -> u64
     (i128::from(number) - i128::from(times) * i128::from(d)) as u64
 }
 
-/// The upper part of a number, in units of 2²⁹, rounded down.
-#[inline(always)]
-fn upper_part(number: i128) -> i128
-    ensures floor { IsFloor result number (pos (2 ^ 29)) }
-{
-    number >> 29
-}
-
 /// What is left of a number above its upper part, in units of 2²⁹.
 #[inline(always)]
 fn low_part(number: i128, upper: i128) -> u64
@@ -112,20 +106,12 @@ fn stepped_floor(n: i128, d: i128) -> Option<i128>
     ensures value { IfSome result (λ q. IsFloor q n d) }
 {
     let d = small_divisor(d)?;
-    let part = upper_part(n);
+    let part = shr_floor::<29>(n);
     let upper = as_64_bits(part)?;
-    let quotient = floor_64(upper, d);
+    let quotient = floor_div_i64(upper, d);
     let rest = rest_of(upper, quotient, d);
     let last = last_step(rest, low_part(n, part), d as u64);
     Some(i128::from(quotient) * 536_870_912 + i128::from(last))
-}
-
-/// A number by 128, rounded down.
-#[inline(always)]
-fn floor_by_128(number: i128) -> i128
-    ensures floor { IsFloor result number (pos 128) }
-{
-    number >> 7
 }
 
 /// The quotient of `n` by 128 times `d`, rounded down, in two steps of 64 bits, where these suffice. A power of ten,
@@ -135,7 +121,7 @@ fn shifted_floor(n: i128, d: i128) -> Option<i128>
     requires { pos 0 <ℤ d }
     ensures value { IfSome result (λ q. IsFloor q n (d *ℤ pos 128)) }
 {
-    stepped_floor(floor_by_128(n), d)
+    stepped_floor(shr_floor::<7>(n), d)
 }
 
 /// The quotient of `n` by `d`, rounded down, in two steps of 64 bits, where these suffice.

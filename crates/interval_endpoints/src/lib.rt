@@ -30,7 +30,7 @@ pub use comparing::{cell_of_endpoints, order_of_endpoints, undecided_test_at};
 pub use endpoints::Endpoints;
 pub use fractions::{denominator, endpoints_of_fraction, scale_endpoints, widen_endpoints};
 pub use int_division::{
-    amod, ceil_div, floor_div, greatest_of, high_half, least_of, modulo, sorted,
+    amod, ceil_div, floor_div, greatest_of, high_half, least_of, modulo, shr_floor, sorted,
 };
 pub use ranges::{clamp_endpoints, hull_endpoints, max_endpoints, min_endpoints};
 pub use spans::{endpoints_at_fine_scale, endpoints_of_span};

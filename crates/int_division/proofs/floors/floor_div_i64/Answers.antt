@@ -1,7 +1,7 @@
 use Rattle.std.proofs.Common.{rules, arith, SFits, w64, negsuc, ◌-ℤ◌}
 use Rattle.std.proofs.lemmas.Int.{ints, to_z-of_z}
 use Rattle.int_division.proofs.Stepping.{floor_below}
-use Rattle.int_division.proofs.floors.floor_64.Goals as goal
+use Rattle.int_division.proofs.floors.floor_div_i64.Goals as goal
 
 pub returns-then-n-lt0 : goal.returns-then-n-lt0
 returns-then-n-lt0 c =
