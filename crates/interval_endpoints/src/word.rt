@@ -9,7 +9,7 @@ ghost use Rattle.int_division.specs.Rounding.{IsFloor, IsCeiling};
 ghost use Rattle.interval_endpoints.specs.Scales.{Scale, coarse, fine, unit, below, finer_units, word};
 
 use crate::parts::ONE;
-use int_division::{ceil_div, floor_div};
+use int_division::{ceil_div, floor_div, shr_floor};
 
 /// A whole number of so many bits, which counts the units of a scale.
 pub trait MachineWord: Copy + Drop {
@@ -324,7 +324,7 @@ impl MachineWord for i128 {
 
     #[inline(always)]
     fn floor(self) -> i128 {
-        self >> 56
+        shr_floor::<56>(self)
     }
 
     #[inline(always)]

@@ -12,7 +12,7 @@ ghost use Rattle.interval_products.specs.Room.{HasProduct, IsDividend, HasQuotie
 use crate::stepping::{stepped_down, stepped_up};
 use crate::whole_roots::whole_root;
 use interval_endpoints::parts::ONE;
-use interval_endpoints::{MachineWord, ceil_div, floor_div};
+use interval_endpoints::{MachineWord, ceil_div, floor_div, shr_floor};
 
 /// A word whose products, quotients and roots are rounded to its scale. They are taken in 128 bits, and are `None` only where
 /// these have no room.
@@ -85,14 +85,14 @@ impl RoundingWord for i64 {
 
     #[inline(always)]
     fn floor_product(product: i128) -> i128 {
-        product >> 36
+        shr_floor::<36>(product)
     }
 
     #[inline(always)]
     fn ceil_product(product: i128) -> i128 {
         // Rounded up by the number rounded down: no opposite is taken, for which 128 bits may have
         // no room, so that a product which fits is always rounded.
-        let down = product >> 36;
+        let down = shr_floor::<36>(product);
         if down * 68_719_476_736 == product {
             down
         } else {
@@ -140,12 +140,12 @@ impl RoundingWord for i128 {
 
     #[inline(always)]
     fn floor_product(product: i128) -> i128 {
-        product >> 56
+        shr_floor::<56>(product)
     }
 
     #[inline(always)]
     fn ceil_product(product: i128) -> i128 {
-        let down = product >> 56;
+        let down = shr_floor::<56>(product);
         if down * ONE == product {
             down
         } else {
