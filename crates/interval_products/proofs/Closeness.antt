@@ -100,6 +100,12 @@ least_below : (m : ℕ) (c d : ℤ) → d <ℤ pos 0 → c ≤ℤ d → 0 < m �
 least_below m c d h o z (inl l) = absurd (omega (arith, ints, h, o, z, l))
 least_below m c d h o z (inr l) = omega (arith, ints, l)
 
+-- what is said of the endpoints of a quotient is said of how far apart they are
+abbrev pub IsCloseBy : Scale → (x y c d apart : ℤ) → Type 0
+IsCloseBy scale x y c d apart =
+    (m : ℕ) → 0 < m → (pos m ≤ℤ c) ⊎ (d ≤ℤ (pos 0 -ℤ pos m)) → ((apart -ℤ pos 2) *ℤ (pos m *ℤ pos m))
+    ≤ℤ (unit scale *ℤ ((y -ℤ x) *ℤ pos m) +ℤ unit scale *ℤ (pos (size_between x y) *ℤ (d -ℤ c)))
+
 pub positive_close : (scale : Scale) (x y c d lo hi : ℤ) → c ≤ℤ d → pos 0 <ℤ c → AreQuotientsAt scale x y c d lo hi
     → IsCloseQuotient scale x y c d lo hi
 positive_close scale x y c d lo hi r h q = λ m z l. q.close (pos (size_between x y)) (pos m) (omega (arith, ints))

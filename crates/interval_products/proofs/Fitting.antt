@@ -13,17 +13,35 @@ use Rattle.interval_endpoints.specs.Rounding.{IsLeastBy, IsGreatestBy}
 use Rattle.interval_endpoints.specs.Scales.{Scale, coarse, fine, at_scale, limits_on, word}
 use Rattle.interval_endpoints.proofs.Keeping.{AreKept, kept_of, both}
 use Rattle.interval_endpoints.proofs.Products.{IsBounded, corner_sized, sized, ceil_above}
-use Rattle.interval_products.specs.Room.{HaveProducts, IsDividend, HasQuotient, HasFineQuotient, HaveQuotients}
-use Rattle.interval_products.specs.Room.{HaveFineQuotients, HaveOpposites, HaveQuotientsBy, HasRoot}
+use Rattle.interval_products.specs.Room.{HaveProducts, IsDividend, AreDividends, HasQuotient, HasFineQuotient}
+use Rattle.interval_products.specs.Room.{HaveQuotients, HaveFineQuotients, HaveOpposites, HaveQuotientsBy, HasRoot}
 
 -- an endpoint may be divided, and so may its opposite
-pub end_divides : (scale : Scale) (n a : ℤ) → SFits (word scale) n → a ≡ n → IsDividend scale a
+end_divides : (scale : Scale) (n a : ℤ) → SFits (word scale) n → a ≡ n → IsDividend scale a
 end_divides coarse n a f e = record { above = omega (arith, ints, f, e); below = omega (arith, ints, f, e) }
 end_divides fine n a f e = record { above = omega (arith, ints, f, e); below = omega (arith, ints, f, e) }
 
-pub opposite_divides : (scale : Scale) (n a : ℤ) → SFits (word scale) n → a ≡ pos 0 -ℤ n → IsDividend scale a
+opposite_divides : (scale : Scale) (n a : ℤ) → SFits (word scale) n → a ≡ pos 0 -ℤ n → IsDividend scale a
 opposite_divides coarse n a f e = record { above = omega (arith, ints, f, e); below = omega (arith, ints, f, e) }
 opposite_divides fine n a f e = record { above = omega (arith, ints, f, e); below = omega (arith, ints, f, e) }
+
+-- the same of two in order
+pub endpoints_divide : (scale : Scale) (n m a b : ℤ) → SFits (word scale) n → SFits (word scale) m → n ≤ℤ m → a ≡ n
+    → b ≡ m
+    → AreDividends scale a b
+endpoints_divide scale n m a b f g o e d = record {
+  ordered = omega (arith, ints, o, e, d);
+  first = end_divides scale n a f e;
+  last = end_divides scale m b g d;
+}
+
+pub opposites_divide : (scale : Scale) (n m a b : ℤ) → SFits (word scale) n → SFits (word scale) m → n ≤ℤ m
+    → a ≡ pos 0 -ℤ m → b ≡ pos 0 -ℤ n → AreDividends scale a b
+opposites_divide scale n m a b f g o e d = record {
+  ordered = omega (arith, ints, o, e, d);
+  first = opposite_divides scale m a g e;
+  last = opposite_divides scale n b f d;
+}
 
 roomy : (A B Z : ℕ) (p : ℤ) → IsBounded p ((pos (2 ^ 24) *ℤ pos A) *ℤ (pos (2 ^ 24) *ℤ pos B)) → A * B ≤ Z * 2 ^ 32
     → Z < 2 ^ 46 → SFits w128 p

@@ -26,6 +26,12 @@ pub record IsDividend (scale : Scale) (n : ℤ) : Type 0 where
   pub above : (pos 0 -ℤ most_end scale) ≤ℤ n
   pub below : n ≤ℤ most_end scale
 
+-- two endpoints in order, or the opposites of two
+pub record AreDividends (scale : Scale) (a b : ℤ) : Type 0 where
+  pub ordered : a ≤ℤ b
+  pub first : IsDividend scale a
+  pub last : IsDividend scale b
+
 -- the divisor is at most 2^70, and the quotient at most 2^69 in size
 pub record HasFineQuotient (n d : ℤ) : Type 0 where
   pub divisor : d ≤ℤ pos (2 ^ 70)

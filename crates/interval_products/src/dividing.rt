@@ -1,11 +1,12 @@
 //! Quotients of endpoints, rounded outwards.
-ghost use Rattle.std.specs.Prelude.{ℕ, pos, ◌≤ℤ◌, ◌<ℤ◌, Some, IfSome, IsSome};
+ghost use Rattle.std.specs.Prelude.{◌≡◌, ℕ, pos, ◌≤ℤ◌, ◌<ℤ◌, ◌-ℤ◌, Some, IfSome, IsSome, IsNone, FitsSigned};
+ghost use Rattle.std.specs.Int.{w128};
 ghost use Rattle.book_model.specs.Interval.{◌⊆◌, quotient};
 ghost use Rattle.book_model.specs.numbers.Bounds.{Bound, IsNarrow, quotient_bound};
 ghost use Rattle.interval_endpoints.specs.Rounding.{IsLeastBy, IsGreatestBy, AreQuotientsAt};
 ghost use Rattle.interval_endpoints.specs.Scales.{limits_on};
 ghost use Rattle.interval_endpoints.specs.Shown.{shown_endpoints, shown_of};
-ghost use Rattle.interval_products.specs.Room.{IsDividend, HaveQuotients, HaveQuotientsBy};
+ghost use Rattle.interval_products.specs.Room.{AreDividends, HaveQuotients, HaveQuotientsBy};
 ghost use Rattle.interval_products.specs.Close.{IsCloseQuotient, OfTwo, ThereOfTwo};
 
 use crate::word::RoundingWord;
@@ -32,16 +33,38 @@ fn greatest_by(b: i128, c: i128, d: i128) -> i128
 /// The endpoints around the quotients of the numbers from `a` to `b` by those from `c` to `d`, which are above 0.
 #[inline]
 fn quotients<I: RoundingWord>(a: i128, b: i128, c: i128, d: i128) -> Option<(i128, i128)>
-    requires dividend { a ≤ℤ b }
+    requires dividend { AreDividends I.scale a b }
     requires divisor { c ≤ℤ d }
     requires positive { pos 0 <ℤ c }
-    requires first { IsDividend I.scale a }
-    requires last { IsDividend I.scale b }
     ensures value { IfSome result (λ q. AreQuotientsAt I.scale a b c d q.0 q.1) }
     ensures some { HaveQuotients I.scale a b c d → IsSome result }
 {
     let lo = I::quotient_down(a, least_by(a, c, d))?;
     let hi = I::quotient_up(b, greatest_by(b, c, d))?;
+    Some((lo, hi))
+}
+
+/// Endpoints in 128 bits.
+#[inline(always)]
+fn wide_endpoints<I: RoundingWord>(x: Endpoints<I>) -> (i128, i128)
+    ensures lower { result.0 ≡ I.value x.lo }
+    ensures upper { result.1 ≡ I.value x.hi }
+    ensures dividends { AreDividends I.scale result.0 result.1 }
+{
+    (x.lo.wide(), x.hi.wide())
+}
+
+/// Their opposites, in the other order; none, where 128 bits have no room for one of them.
+#[inline(always)]
+fn opposite_endpoints<I: RoundingWord>(x: Endpoints<I>) -> Option<(i128, i128)>
+    ensures lower { IfSome result (λ r. r.0 ≡ pos 0 -ℤ I.value x.hi) }
+    ensures upper { IfSome result (λ r. r.1 ≡ pos 0 -ℤ I.value x.lo) }
+    ensures dividends { IfSome result (λ r. AreDividends I.scale r.0 r.1) }
+    ensures none { IsNone result → FitsSigned w128 (pos 0 -ℤ I.value x.lo)
+        → ¬ FitsSigned w128 (pos 0 -ℤ I.value x.hi) }
+{
+    let lo = x.hi.wide().checked_neg()?;
+    let hi = x.lo.wide().checked_neg()?;
     Some((lo, hi))
 }
 
@@ -55,10 +78,8 @@ fn positive_quotients<I: RoundingWord>(x: Endpoints<I>, y: Endpoints<I>) -> Opti
     ensures close { OfTwo (IsCloseQuotient I.scale) (Some x) (Some y) result }
     ensures some { ThereOfTwo (HaveQuotientsBy I.scale) (Some x) (Some y) result }
 {
-    let a = x.lo.wide();
-    let b = x.hi.wide();
-    let c = y.lo.wide();
-    let d = y.hi.wide();
+    let (a, b) = wide_endpoints(x);
+    let (c, d) = wide_endpoints(y);
     let (lo, hi) = quotients::<I>(a, b, c, d)?;
     endpoints_of(lo, hi)
 }
@@ -71,10 +92,8 @@ fn negative_quotients<I: RoundingWord>(x: Endpoints<I>, y: Endpoints<I>) -> Opti
     ensures close { OfTwo (IsCloseQuotient I.scale) (Some x) (Some y) result }
     ensures some { ThereOfTwo (HaveQuotientsBy I.scale) (Some x) (Some y) result }
 {
-    let a = x.hi.wide().checked_neg()?;
-    let b = x.lo.wide().checked_neg()?;
-    let c = y.hi.wide().checked_neg()?;
-    let d = y.lo.wide().checked_neg()?;
+    let (a, b) = opposite_endpoints(x)?;
+    let (c, d) = opposite_endpoints(y)?;
     let (lo, hi) = quotients::<I>(a, b, c, d)?;
     endpoints_of(lo, hi)
 }

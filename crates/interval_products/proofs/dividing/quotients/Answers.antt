@@ -31,7 +31,7 @@ returns-in_err-lo-clause-some g c = λ r.
     let fp : SFits w128 c.least_by.result = search rules in
     let l = simp to_z-of_z at c.least_by.ensures in
     let n = simp to_z-of_z at c.in_err-lo.ensures.none in
-    absurd (n refl (first_has g.I.MachineWord.scale _ _ _ _ _ c.requires.dividend c.requires.divisor l r))
+    absurd (n refl (first_has g.I.MachineWord.scale _ _ _ _ _ c.requires.dividend.ordered c.requires.divisor l r))
 
 pub returns-in_err-hi-clause-some : goal.returns-in_err-hi-clause-some
 returns-in_err-hi-clause-some g c = λ r.
@@ -41,7 +41,7 @@ returns-in_err-hi-clause-some g c = λ r.
     let fq : SFits w128 c.greatest_by.result = search rules in
     let l = simp to_z-of_z at c.greatest_by.ensures in
     let n = simp to_z-of_z at c.in_err-hi.ensures.none in
-    absurd (n refl (last_has g.I.MachineWord.scale _ _ _ _ _ c.requires.dividend c.requires.divisor l r))
+    absurd (n refl (last_has g.I.MachineWord.scale _ _ _ _ _ c.requires.dividend.ordered c.requires.divisor l r))
 
 pub returns-clause-value : goal.returns-clause-value
 returns-clause-value g c =
@@ -57,6 +57,5 @@ returns-clause-value g c =
     let fh : SFits w128 c.in_ok-hi.hi = search rules in
     let i = simp to_z-of_z at c.in_ok-lo.ensures.value in
     let j = simp to_z-of_z at c.in_ok-hi.ensures.value in
-    simp to_z-of_z (quotients_are g.I.MachineWord.scale c.args.a c.args.b c.args.c c.args.d _ _ _ _ c.requires.dividend
-    c.requires.positive c.requires.divisor l
-    m i j)
+    simp to_z-of_z (quotients_are g.I.MachineWord.scale c.args.a c.args.b c.args.c c.args.d _ _ _ _
+    c.requires.dividend.ordered c.requires.positive c.requires.divisor l m i j)
