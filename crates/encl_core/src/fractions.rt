@@ -6,6 +6,7 @@ ghost use Rattle.book_model.specs.numbers.Bounds.{IsNarrow, constant_bound, limi
 ghost use Rattle.interval_endpoints.specs.Shown.{shown_endpoints};
 
 use book_model::Frac;
+use interval_endpoints::parts::ONE_36;
 use interval_endpoints::{Endpoints, ceil_div, endpoints_of, endpoints_of_fraction, floor_div};
 
 // Where a caller's denominator is a constant, the compiler takes the branch away.
@@ -14,8 +15,8 @@ use interval_endpoints::{Endpoints, ceil_div, endpoints_of, endpoints_of_fractio
 fn units_of(den: u64) -> u64
     ensures value { 0 < result → den ≡ result * 2 ^ 36 }
 {
-    if den % 68_719_476_736 == 0 {
-        den / 68_719_476_736
+    if den % ONE_36 as u64 == 0 {
+        den / ONE_36 as u64
     } else {
         0
     }

@@ -10,6 +10,10 @@ use interval_endpoints::{Endpoints, ceil_div, endpoints_of, floor_div, sorted};
 /// What a rate of ten-millionths a century is counted by in a day.
 const DAILY: i128 = 365_250_000_000;
 
+/// What a phase of ten-millionths is counted by: 2³⁶ times the 36,525 days of a century, so that it stands over the same
+/// denominator as a rate times an endpoint, and one quotient rounds both.
+const PHASE_UNITS: i128 = 36_525 << 36;
+
 /// The product of an endpoint and a rate.
 #[inline(always)]
 fn product_of(a: i64, b: i64) -> i128
@@ -19,14 +23,12 @@ fn product_of(a: i64, b: i64) -> i128
     i128::from(a) * i128::from(b)
 }
 
-// The factor is 2³⁶ times 36,525 days: both parts over one denominator, so that one quotient rounds
-// them.
 /// A phase of ten-millionths and the rate times an endpoint, by that number.
 #[inline(always)]
 fn turned(end: i64, phase: i64, rate: i64) -> i128
     ensures value { result ≡ phase *ℤ pos 2509978887782400 +ℤ end *ℤ rate }
 {
-    i128::from(phase) * 2_509_978_887_782_400 + product_of(end, rate)
+    i128::from(phase) * PHASE_UNITS + product_of(end, rate)
 }
 
 /// The endpoints around a phase of ten-millionths and a rate of so many a century times the members, which are

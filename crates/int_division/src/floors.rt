@@ -7,6 +7,15 @@ ghost use Rattle.int_division.specs.Rounding.{IsFloor, IsCeiling};
 
 use crate::shifts::shr_floor;
 
+/// A quotient in two steps: the upper part of a dividend counts units of 2²⁹, and 29 bits are left for the second step.
+const STEP_BITS: u32 = 29;
+
+/// The unit of the upper part.
+const STEP_UNIT: i128 = 1 << STEP_BITS;
+
+/// A divisor in two steps is below this: so what it leaves of the upper part, with 29 further bits, fits 64.
+const STEP_DIVISORS: i128 = 1 << 35;
+
 /// The number in 64 bits, where it fits.
 #[inline(always)]
 fn as_64_bits(n: i128) -> Option<i64>
@@ -50,15 +59,14 @@ fn floor_in_64_bits(n: i128, d: i128) -> Option<i64>
     Some(floor_div_i64(n, d))
 }
 
-// Below 2³⁵, so that the rest and 29 further bits fit 64.
-/// A divisor below 2³⁵.
+/// A divisor that is small enough for two steps.
 #[inline(always)]
 fn small_divisor(d: i128) -> Option<i64>
     requires { pos 0 <ℤ d }
     ensures value { IfSome result (λ m. m ≡ d) }
     ensures small { IfSome result (λ m. m <ℤ pos (2 ^ 35)) }
 {
-    if d < 34_359_738_368 {
+    if d < STEP_DIVISORS {
         as_64_bits(d)
     } else {
         None
@@ -74,7 +82,7 @@ fn last_step(rest: u64, low: u64, d: u64) -> u64
     requires low { low < 2 ^ 29 }
     ensures floor { IsFloor (pos result) (pos rest *ℤ pos (2 ^ 29) +ℤ pos low) (pos d) }
 {
-    (rest * 536_870_912 + low) / d
+    (rest * STEP_UNIT as u64 + low) / d
 }
 
 // Small functions, so that each proof is about one expression.
@@ -96,7 +104,7 @@ fn low_part(number: i128, upper: i128) -> u64
     ensures value { pos result ≡ number -ℤ upper *ℤ pos (2 ^ 29) }
     ensures less { result < 2 ^ 29 }
 {
-    (number - upper * 536_870_912) as u64
+    (number - upper * STEP_UNIT) as u64
 }
 
 /// The quotient of `n` by `d`, rounded down, in two steps of 64 bits, where `d` is small and the upper part of `n` fits.
@@ -106,12 +114,12 @@ fn stepped_floor(n: i128, d: i128) -> Option<i128>
     ensures value { IfSome result (λ q. IsFloor q n d) }
 {
     let d = small_divisor(d)?;
-    let part = shr_floor::<29>(n);
+    let part = shr_floor::<STEP_BITS>(n);
     let upper = as_64_bits(part)?;
     let quotient = floor_div_i64(upper, d);
     let rest = rest_of(upper, quotient, d);
     let last = last_step(rest, low_part(n, part), d as u64);
-    Some(i128::from(quotient) * 536_870_912 + i128::from(last))
+    Some(i128::from(quotient) * STEP_UNIT + i128::from(last))
 }
 
 /// The quotient of `n` by 128 times `d`, rounded down, in two steps of 64 bits, where these suffice. A power of ten,

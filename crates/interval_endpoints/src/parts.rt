@@ -1,10 +1,16 @@
-//! Numbers in units of 2⁻⁵⁶: of one, of a day, of a degree.
+//! Numbers in units of 2⁻⁵⁶: of one, of a day, of a degree; and one in units of 2⁻³⁶.
 
 /// One, a day, or a degree.
 pub const ONE: i128 = 1 << 56;
 
 /// One, in 64 bits.
 pub const NATURAL_ONE: u64 = 1 << 56;
+
+/// One, in units of 2⁻³⁶.
+pub const ONE_36: i64 = 1 << 36;
+
+/// One, in units of 2⁻³⁶, in 128 bits.
+pub const WIDE_ONE_36: i128 = 1 << 36;
 
 /// A half.
 pub const HALF: i128 = 1 << 55;

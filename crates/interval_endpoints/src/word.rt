@@ -8,8 +8,11 @@ ghost use Rattle.book_model.specs.Fraction.{floor_quotient};
 ghost use Rattle.int_division.specs.Rounding.{IsFloor, IsCeiling};
 ghost use Rattle.interval_endpoints.specs.Scales.{Scale, coarse, fine, unit, below, finer_units, word};
 
-use crate::parts::ONE;
+use crate::parts::{ONE, ONE_36, WIDE_ONE_36};
 use int_division::{ceil_div, floor_div, shr_floor};
+
+/// How many units of 2⁻⁵⁶ are one of 2⁻³⁶.
+const FINER_UNITS: i128 = 1 << 20;
 
 /// A whole number of so many bits, which counts the units of a scale.
 pub trait MachineWord: Copy + Drop {
@@ -129,22 +132,22 @@ impl MachineWord for i64 {
 
     #[inline(always)]
     fn one() -> i64 {
-        68_719_476_736
+        ONE_36
     }
 
     #[inline(always)]
     fn minus_one() -> i64 {
-        -68_719_476_736
+        -ONE_36
     }
 
     #[inline(always)]
     fn units() -> i128 {
-        68_719_476_736
+        WIDE_ONE_36
     }
 
     #[inline(always)]
     fn whole(number: i64) -> Option<i64> {
-        number.checked_mul(68_719_476_736)
+        number.checked_mul(ONE_36)
     }
 
     #[inline(always)]
@@ -223,22 +226,22 @@ impl MachineWord for i64 {
     #[inline(always)]
     fn rest(self, modulus: u32, period: i64) -> Option<i64> {
         let begun = i128::from(modulus) * i128::from(period);
-        i64::of_units(i128::from(self) - begun * 68_719_476_736)
+        i64::of_units(i128::from(self) - begun * WIDE_ONE_36)
     }
 
     #[inline(always)]
     fn at_fine_scale(self) -> i128 {
-        i128::from(self) * 1_048_576
+        i128::from(self) * FINER_UNITS
     }
 
     #[inline(always)]
     fn floor_of_fine(finer: i128) -> i128 {
-        floor_div(finer, 1_048_576)
+        floor_div(finer, FINER_UNITS)
     }
 
     #[inline(always)]
     fn ceil_of_fine(finer: i128) -> i128 {
-        ceil_div(finer, 1_048_576)
+        ceil_div(finer, FINER_UNITS)
     }
 }
 

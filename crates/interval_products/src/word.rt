@@ -11,7 +11,7 @@ ghost use Rattle.interval_products.specs.Room.{HasProduct, IsDividend, HasQuotie
 
 use crate::stepping::{stepped_down, stepped_up};
 use crate::whole_roots::whole_root;
-use interval_endpoints::parts::ONE;
+use interval_endpoints::parts::{ONE, WIDE_ONE_36};
 use interval_endpoints::{MachineWord, ceil_div, floor_div, shr_floor};
 
 /// A word whose products, quotients and roots are rounded to its scale. They are taken in 128 bits, and are `None` only where
@@ -93,7 +93,7 @@ impl RoundingWord for i64 {
         // Rounded up by the number rounded down: no opposite is taken, for which 128 bits may have
         // no room, so that a product which fits is always rounded.
         let down = shr_floor::<36>(product);
-        if down * 68_719_476_736 == product {
+        if down * WIDE_ONE_36 == product {
             down
         } else {
             down + 1
@@ -102,12 +102,12 @@ impl RoundingWord for i64 {
 
     #[inline(always)]
     fn quotient_down(dividend: i128, divisor: i128) -> Option<i128> {
-        Some(floor_div(dividend * 68_719_476_736, divisor))
+        Some(floor_div(dividend * WIDE_ONE_36, divisor))
     }
 
     #[inline(always)]
     fn quotient_up(dividend: i128, divisor: i128) -> Option<i128> {
-        Some(ceil_div(dividend * 68_719_476_736, divisor))
+        Some(ceil_div(dividend * WIDE_ONE_36, divisor))
     }
 
     #[inline(always)]
@@ -115,7 +115,7 @@ impl RoundingWord for i64 {
         if self <= 0 {
             return Some(0);
         }
-        Some(i128::from(whole_root(u128::from(self.unsigned_abs()) * 68_719_476_736)))
+        Some(i128::from(whole_root(u128::from(self.unsigned_abs()) * WIDE_ONE_36 as u128)))
     }
 
     #[inline(always)]
@@ -123,7 +123,7 @@ impl RoundingWord for i64 {
         if self <= 0 {
             return Some(0);
         }
-        Some(i128::from(whole_root(u128::from(self.unsigned_abs()) * 68_719_476_736 - 1)) + 1)
+        Some(i128::from(whole_root(u128::from(self.unsigned_abs()) * WIDE_ONE_36 as u128 - 1)) + 1)
     }
 }
 
