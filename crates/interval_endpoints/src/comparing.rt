@@ -16,7 +16,7 @@ pub fn cell_of_endpoints<I: MachineWord>(endpoints: Option<Endpoints<I>>) -> Opt
 {
     let e = endpoints?;
     let cell = e.lo.floor();
-    if cell.is_same(e.hi.floor()) {
+    if cell.is_equal(e.hi.floor()) {
         Some(cell)
     } else {
         None
@@ -60,9 +60,9 @@ pub fn order_of_endpoints<I: MachineWord>(
 {
     let x = x?;
     let y = y?;
-    if x.hi.is_below(y.lo) {
+    if x.hi.is_less(y.lo) {
         Some(true)
-    } else if x.lo.is_below(y.hi) {
+    } else if x.lo.is_less(y.hi) {
         None
     } else {
         Some(false)

@@ -56,8 +56,8 @@ pub fn scale_endpoints<I: MachineWord>(x: Option<Endpoints<I>>, by: Frac) -> Opt
 {
     let x = x?;
     let factor = by.num();
-    let p = x.lo.times(factor)?;
-    let q = x.hi.times(factor)?;
+    let p = x.lo.checked_mul(factor)?;
+    let q = x.hi.checked_mul(factor)?;
     let below = denominator(by);
     let (least, greatest) = sorted(p, q);
     endpoints_of(floor_div(least, below), ceil_div(greatest, below))

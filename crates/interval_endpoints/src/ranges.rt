@@ -22,8 +22,8 @@ pub fn min_endpoints<I: MachineWord>(
 {
     let x = x?;
     let y = y?;
-    let lo = x.lo.lesser(y.lo);
-    let hi = x.hi.lesser(y.hi);
+    let lo = x.lo.min(y.lo);
+    let hi = x.hi.min(y.hi);
     Some(Endpoints { lo, hi })
 }
 
@@ -40,8 +40,8 @@ pub fn max_endpoints<I: MachineWord>(
 {
     let x = x?;
     let y = y?;
-    let lo = x.lo.greater(y.lo);
-    let hi = x.hi.greater(y.hi);
+    let lo = x.lo.max(y.lo);
+    let hi = x.hi.max(y.hi);
     Some(Endpoints { lo, hi })
 }
 
@@ -58,8 +58,8 @@ pub fn hull_endpoints<I: MachineWord>(
 {
     let x = x?;
     let y = y?;
-    let lo = x.lo.lesser(y.lo);
-    let hi = x.hi.greater(y.hi);
+    let lo = x.lo.min(y.lo);
+    let hi = x.hi.max(y.hi);
     Some(Endpoints { lo, hi })
 }
 
@@ -69,7 +69,7 @@ fn cut<I: MachineWord>(end: I) -> I
     ensures value { I.value result ≡ int_max (int_min (I.value end) (unit I.scale))
         (neg_ℤ (unit I.scale)) }
 {
-    end.lesser(I::one()).greater(I::minus_one())
+    end.min(I::one()).max(I::minus_one())
 }
 
 /// Endpoints that are cut to -1..1.

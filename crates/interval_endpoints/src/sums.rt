@@ -40,8 +40,8 @@ pub fn int_endpoints<I: MachineWord>(value: i64) -> Option<Endpoints<I>>
 fn sums<I: MachineWord>(x: Endpoints<I>, y: Endpoints<I>) -> Option<Endpoints<I>>
     ensures endpoints { HasEndpoints (I.value x.lo +ℤ I.value y.lo) (I.value x.hi +ℤ I.value y.hi) result }
 {
-    let lo = x.lo.plus(y.lo)?;
-    let hi = x.hi.plus(y.hi)?;
+    let lo = x.lo.checked_add(y.lo)?;
+    let hi = x.hi.checked_add(y.hi)?;
     Some(Endpoints { lo, hi })
 }
 
@@ -50,8 +50,8 @@ fn sums<I: MachineWord>(x: Endpoints<I>, y: Endpoints<I>) -> Option<Endpoints<I>
 fn differences<I: MachineWord>(x: Endpoints<I>, y: Endpoints<I>) -> Option<Endpoints<I>>
     ensures endpoints { HasEndpoints (I.value x.lo -ℤ I.value y.hi) (I.value x.hi -ℤ I.value y.lo) result }
 {
-    let lo = x.lo.minus(y.hi)?;
-    let hi = x.hi.minus(y.lo)?;
+    let lo = x.lo.checked_sub(y.hi)?;
+    let hi = x.hi.checked_sub(y.lo)?;
     Some(Endpoints { lo, hi })
 }
 
@@ -60,8 +60,8 @@ fn differences<I: MachineWord>(x: Endpoints<I>, y: Endpoints<I>) -> Option<Endpo
 fn opposites<I: MachineWord>(x: Endpoints<I>) -> Option<Endpoints<I>>
     ensures endpoints { HasEndpoints (pos 0 -ℤ I.value x.hi) (pos 0 -ℤ I.value x.lo) result }
 {
-    let lo = x.hi.opposite()?;
-    let hi = x.lo.opposite()?;
+    let lo = x.hi.checked_neg()?;
+    let hi = x.lo.checked_neg()?;
     Some(Endpoints { lo, hi })
 }
 

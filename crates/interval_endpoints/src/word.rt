@@ -47,25 +47,25 @@ pub trait MachineWord: Copy + Drop {
         ensures none { IsNone result → ¬ FitsSigned (word scale) units };
 
     /// The lesser of two numbers.
-    fn lesser(self, other: Self) -> Self
+    fn min(self, other: Self) -> Self
         ensures least { value result ≡ int_min (value self) (value other) };
 
     /// The greater of two numbers.
-    fn greater(self, other: Self) -> Self
+    fn max(self, other: Self) -> Self
         ensures greatest { value result ≡ int_max (value self) (value other) };
 
     /// The sum, where it fits.
-    fn plus(self, other: Self) -> Option<Self>
+    fn checked_add(self, other: Self) -> Option<Self>
         ensures sum { IfSome result (λ r. value r ≡ value self +ℤ value other) }
         ensures none { IsNone result → ¬ FitsSigned (word scale) (value self +ℤ value other) };
 
     /// The difference, where it fits.
-    fn minus(self, other: Self) -> Option<Self>
+    fn checked_sub(self, other: Self) -> Option<Self>
         ensures difference { IfSome result (λ r. value r ≡ value self -ℤ value other) }
         ensures none { IsNone result → ¬ FitsSigned (word scale) (value self -ℤ value other) };
 
     /// The opposite, where it fits.
-    fn opposite(self) -> Option<Self>
+    fn checked_neg(self) -> Option<Self>
         ensures opposite { IfSome result (λ r. value r ≡ pos 0 -ℤ value self) }
         ensures none { IsNone result → ¬ FitsSigned (word scale) (pos 0 -ℤ value self) };
 
@@ -80,16 +80,16 @@ pub trait MachineWord: Copy + Drop {
         ensures none { IsNone result → ¬ FitsSigned (word scale) (value self -ℤ units) };
 
     /// The product with a factor; `None` only where 128 bits have no room.
-    fn times(self, factor: i128) -> Option<i128>
+    fn checked_mul(self, factor: i128) -> Option<i128>
         ensures product { IfSome result (λ p. p ≡ value self *ℤ factor) }
         ensures none { IsNone result → ¬ FitsSigned w128 (value self *ℤ factor) };
 
     /// Whether the number is below another.
-    fn is_below(self, other: Self) -> bool
+    fn is_less(self, other: Self) -> bool
         ensures below { IsTrue result ↔ (value self <ℤ value other) };
 
     /// Whether the number is another.
-    fn is_same(self, other: Self) -> bool
+    fn is_equal(self, other: Self) -> bool
         ensures same { IsTrue result ↔ (value self ≡ value other) };
 
     /// The greatest whole number that is not above this many units.
@@ -156,27 +156,27 @@ impl MachineWord for i64 {
     }
 
     #[inline(always)]
-    fn lesser(self, other: i64) -> i64 {
-        self.min(other)
+    fn min(self, other: i64) -> i64 {
+        Ord::min(self, other)
     }
 
     #[inline(always)]
-    fn greater(self, other: i64) -> i64 {
-        self.max(other)
+    fn max(self, other: i64) -> i64 {
+        Ord::max(self, other)
     }
 
     #[inline(always)]
-    fn plus(self, other: i64) -> Option<i64> {
+    fn checked_add(self, other: i64) -> Option<i64> {
         self.checked_add(other)
     }
 
     #[inline(always)]
-    fn minus(self, other: i64) -> Option<i64> {
+    fn checked_sub(self, other: i64) -> Option<i64> {
         self.checked_sub(other)
     }
 
     #[inline(always)]
-    fn opposite(self) -> Option<i64> {
+    fn checked_neg(self) -> Option<i64> {
         self.checked_neg()
     }
 
@@ -193,7 +193,7 @@ impl MachineWord for i64 {
     }
 
     #[inline(always)]
-    fn times(self, factor: i128) -> Option<i128> {
+    fn checked_mul(self, factor: i128) -> Option<i128> {
         match i64::try_from(factor) {
             // Two factors of 64 bits always have room; one of 128 has where the checked product
             // does.
@@ -203,12 +203,12 @@ impl MachineWord for i64 {
     }
 
     #[inline(always)]
-    fn is_below(self, other: i64) -> bool {
+    fn is_less(self, other: i64) -> bool {
         self < other
     }
 
     #[inline(always)]
-    fn is_same(self, other: i64) -> bool {
+    fn is_equal(self, other: i64) -> bool {
         self == other
     }
 
@@ -276,27 +276,27 @@ impl MachineWord for i128 {
     }
 
     #[inline(always)]
-    fn lesser(self, other: i128) -> i128 {
-        self.min(other)
+    fn min(self, other: i128) -> i128 {
+        Ord::min(self, other)
     }
 
     #[inline(always)]
-    fn greater(self, other: i128) -> i128 {
-        self.max(other)
+    fn max(self, other: i128) -> i128 {
+        Ord::max(self, other)
     }
 
     #[inline(always)]
-    fn plus(self, other: i128) -> Option<i128> {
+    fn checked_add(self, other: i128) -> Option<i128> {
         self.checked_add(other)
     }
 
     #[inline(always)]
-    fn minus(self, other: i128) -> Option<i128> {
+    fn checked_sub(self, other: i128) -> Option<i128> {
         self.checked_sub(other)
     }
 
     #[inline(always)]
-    fn opposite(self) -> Option<i128> {
+    fn checked_neg(self) -> Option<i128> {
         self.checked_neg()
     }
 
@@ -311,17 +311,17 @@ impl MachineWord for i128 {
     }
 
     #[inline(always)]
-    fn times(self, factor: i128) -> Option<i128> {
+    fn checked_mul(self, factor: i128) -> Option<i128> {
         self.checked_mul(factor)
     }
 
     #[inline(always)]
-    fn is_below(self, other: i128) -> bool {
+    fn is_less(self, other: i128) -> bool {
         self < other
     }
 
     #[inline(always)]
-    fn is_same(self, other: i128) -> bool {
+    fn is_equal(self, other: i128) -> bool {
         self == other
     }
 

@@ -23,7 +23,7 @@ pub fn period_of_endpoints<I: MachineWord>(
 {
     let e = endpoints?;
     let period = e.lo.floor().period(modulus);
-    if period.is_same(e.hi.floor().period(modulus)) {
+    if period.is_equal(e.hi.floor().period(modulus)) {
         Some(period)
     } else {
         None

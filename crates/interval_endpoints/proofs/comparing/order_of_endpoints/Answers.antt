@@ -11,19 +11,19 @@ returns-in_err-y g c = record {
       (order_second _ _);
 }
 
-pub returns-then-is_below : goal.returns-then-is_below
-returns-then-is_below g c =
+pub returns-then-is_less : goal.returns-then-is_less
+returns-then-is_less g c =
     record { value = rw (c.in_ok-x.was, c.in_ok-y.was) (order_below g.I.MachineWord.scale _ _ _ _ (search rules)) }
 
-pub returns-then-is_below-2 : goal.returns-then-is_below-2
-returns-then-is_below-2 g c =
+pub returns-then-is_less-2 : goal.returns-then-is_less-2
+returns-then-is_less-2 g c =
     record {
       value = rw (c.in_ok-x.was, c.in_ok-y.was) (order_open g.I.MachineWord.scale _ _ _ _ (search rules)
           (search rules));
     }
 
-pub returns-else-is_below-2 : goal.returns-else-is_below-2
-returns-else-is_below-2 g c =
+pub returns-else-is_less-2 : goal.returns-else-is_less-2
+returns-else-is_less-2 g c =
     record {
       value = rw (c.in_ok-x.was, c.in_ok-y.was) (order_above g.I.MachineWord.scale _ _ _ _ (search rules)
           (search rules));

@@ -4,17 +4,17 @@ use Rattle.interval_endpoints.proofs.ranges.hull_endpoints.Goals as goal
 
 pub returns-clause-holds : goal.returns-clause-holds
 returns-clause-holds g c = rw (c.in_ok-x.was, c.in_ok-y.was)
-    (hull_is g.I.MachineWord.scale _ _ _ _ _ _ c.lesser-lo.ensures.least
-    c.greater-hi.ensures.greatest).there
+    (hull_is g.I.MachineWord.scale _ _ _ _ _ _ c.min-lo.ensures.least
+    c.max-hi.ensures.greatest).there
 
 pub returns-clause-tight : goal.returns-clause-tight
 returns-clause-tight g c = rw (c.in_ok-x.was, c.in_ok-y.was)
-    (hull_is g.I.MachineWord.scale _ _ _ _ _ _ c.lesser-lo.ensures.least
-    c.greater-hi.ensures.greatest).back
+    (hull_is g.I.MachineWord.scale _ _ _ _ _ _ c.min-lo.ensures.least
+    c.max-hi.ensures.greatest).back
 
 pub returns-clause-narrow : goal.returns-clause-narrow
-returns-clause-narrow g c = λ w a b h k. hull_narrow g.I.MachineWord.scale w a b _ _ _ _ _ _ c.lesser-lo.ensures.least
-    c.greater-hi.ensures.greatest
+returns-clause-narrow g c = λ w a b h k. hull_narrow g.I.MachineWord.scale w a b _ _ _ _ _ _ c.min-lo.ensures.least
+    c.max-hi.ensures.greatest
     (rw c.in_ok-x.was at h) (rw c.in_ok-y.was at k)
 
 pub returns-in_err-x-clause-tight : goal.returns-in_err-x-clause-tight

@@ -4,17 +4,17 @@ use Rattle.interval_endpoints.proofs.ranges.max_endpoints.Goals as goal
 
 pub returns-clause-holds : goal.returns-clause-holds
 returns-clause-holds g c = rw (c.in_ok-x.was, c.in_ok-y.was)
-    (maximum_is g.I.MachineWord.scale _ _ _ _ _ _ c.greater-lo.ensures.greatest
-    c.greater-hi.ensures.greatest).there
+    (maximum_is g.I.MachineWord.scale _ _ _ _ _ _ c.max-lo.ensures.greatest
+    c.max-hi.ensures.greatest).there
 
 pub returns-clause-tight : goal.returns-clause-tight
 returns-clause-tight g c = rw (c.in_ok-x.was, c.in_ok-y.was)
-    (maximum_is g.I.MachineWord.scale _ _ _ _ _ _ c.greater-lo.ensures.greatest
-    c.greater-hi.ensures.greatest).back
+    (maximum_is g.I.MachineWord.scale _ _ _ _ _ _ c.max-lo.ensures.greatest
+    c.max-hi.ensures.greatest).back
 
 pub returns-clause-narrow : goal.returns-clause-narrow
 returns-clause-narrow g c = λ w a b h k. maximum_narrow g.I.MachineWord.scale w a b _ _ _ _ _ _
-    c.greater-lo.ensures.greatest c.greater-hi.ensures.greatest
+    c.max-lo.ensures.greatest c.max-hi.ensures.greatest
     (rw c.in_ok-x.was at h) (rw c.in_ok-y.was at k)
 
 pub returns-in_err-x-clause-tight : goal.returns-in_err-x-clause-tight
@@ -32,6 +32,6 @@ returns-in_err-y-clause-narrow g c = λ w a b h k. maximum_with_all w a b _ (rw 
 
 pub invariant_of-result : goal.invariant_of-result
 invariant_of-result g c = record {
-  ordered = greater_order _ _ _ _ _ _ c.in_ok-x.x.ordered c.in_ok-y.y.ordered c.greater-lo.ensures.greatest
-      c.greater-hi.ensures.greatest;
+  ordered = greater_order _ _ _ _ _ _ c.in_ok-x.x.ordered c.in_ok-y.y.ordered c.max-lo.ensures.greatest
+      c.max-hi.ensures.greatest;
 }
