@@ -1,5 +1,6 @@
 -- The arctangents at the edges of the pieces, and at -1, 0 and 1, to 2 parts of 2^-56; and how far apart two others
--- are.
+-- are. At a known number the model's series is computed at depth 40, piece by piece of the code's rule; two arctangents
+-- of a piece are no further apart than its slope allows (`ArcSlopes`), and intervals that hold the same value meet.
 use Rattle.std.proofs.Common.{◌*◌, ◌^◌, refl, arith, ℤ, pos, negsuc, ◌+ℤ◌, ◌*ℤ◌, ◌≤ℤ◌}
 use Rattle.std.proofs.lemmas.Int.{ints}
 use lib.IntN.{neg_ℤ}

@@ -1,4 +1,7 @@
--- From spans and forms to the arcs of expressions.
+-- From spans and forms to the arcs of expressions. What a span holds of one number's arctangent is the value of the
+-- expression; the arcsine and the arccosine are those of other expressions, by the definition. The angle of a direction
+-- goes by cases of the divisor's sign, as the code's tests do; an endpoint beyond -180..180 is moved to the end of it,
+-- which whatever lies there allows.
 use Rattle.std.proofs.Common.{◌≡◌, ℕ, ◌≤◌, ◌+◌, ◌-◌, ◌*◌, ◌^◌, refl, sym, subst, arith, ℤ, pos, negsuc, ◌+ℤ◌, ◌≤ℤ◌}
 use Rattle.std.proofs.Common.{◌<ℤ◌, Bool, true, false, cond, ◌⊎◌, inl}
 use Rattle.std.proofs.Common.{inr}

@@ -1,4 +1,7 @@
--- How wide the span of a part in one piece is, and that of parts side by side.
+-- How wide the span of a part in one piece is, and that of parts side by side. The arctangents at both ends of a part
+-- lie in narrow spans and are no further apart than a rate times the numbers are, and so is their hull. At an edge,
+-- where the arctangent is known, one part ends as the next begins, so that the rates of parts side by side add up: by
+-- cases of which pieces two endpoints meet.
 use Rattle.std.proofs.Common.{◌≡◌, ◌+◌, ◌-◌, ◌*◌, ◌^◌, ◌≤◌, arith, ℕ, ℤ, pos, negsuc, ◌+ℤ◌, ◌-ℤ◌, ◌*ℤ◌, ◌≤ℤ◌, ◌<ℤ◌, ◌⊎◌}
 use Rattle.std.proofs.Common.{inl, inr, Option, Some, None}
 use Rattle.std.specs.Int.{int_min, int_max}

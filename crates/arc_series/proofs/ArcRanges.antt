@@ -1,4 +1,6 @@
--- Where the arctangents of a part of a piece lie and how far apart they are, and the same of parts side by side.
+-- Where the arctangents of a part of a piece lie and how far apart they are, and the same of parts side by side. An
+-- arctangent is off those at the edges, which are known (`ArcAnchors`), by at most the slope times the distance; that
+-- gives its range, of a number from each side, and opposites give that of the negative pieces.
 use Rattle.std.proofs.Common.{◌≡◌, ◌*◌, ◌^◌, subst, arith, ℤ, pos, negsuc, ◌+ℤ◌, ◌-ℤ◌, ◌*ℤ◌, ◌≤ℤ◌, ◌⊎◌, inl, inr}
 use Rattle.std.specs.Int.{int_min, int_max}
 use Rattle.std.proofs.lemmas.Int.{ints, clamps}

@@ -1,5 +1,7 @@
 -- Arctangents of negative numbers rise the less, the further these are from 0: of numbers up to c, by at most 9/4 times
--- what the numbers do over the square of 1 - c, in radians.
+-- what the numbers do over the square of 1 - c, in radians. In each piece the arctangent is that of another number, a
+-- fraction in the first, and moves by no more than that does: that this is below the rate is polynomial, and a
+-- certificate. Then in degrees, and of whole numbers.
 use Rattle.std.proofs.Common.{◌≡◌, subst, zero, suc, ◌*◌, ◌^◌, ◌-◌, ℕ, refl, arith, ℤ, pos, negsuc, ◌+ℤ◌, ◌-ℤ◌, ◌*ℤ◌}
 use Rattle.std.proofs.Common.{◌≤ℤ◌, [], ◌∷◌}
 use Rattle.std.proofs.lemmas.Int.{ints}

@@ -1,4 +1,6 @@
--- Arctangents in degrees rise by at most 57.3 times what their numbers do, in each piece of the line.
+-- Arctangents in degrees rise by at most 57.3 times what their numbers do, in each piece of the line. Near 0 the
+-- series' endpoints rise by no more than the number (`Slopes`); the other pieces take the arctangent of another number,
+-- which moves by no more than the first, and `Climbs` is kept by sums and opposites.
 use Rattle.std.proofs.Common.{◌≡◌, suc, refl, arith, pos, negsuc, Bool, true, false, cond, [], ◌∷◌}
 use Rattle.std.proofs.lemmas.Int.{ints}
 use Rattle.book_model.specs.Fraction.{Fraction, ◌≤F◌, whole, plus, opposite, times, reciprocal, is_at_most}

@@ -1,4 +1,7 @@
--- The kernel holds the arctangents of the model in degrees, at single numbers from -1/2 to 1/2.
+-- The kernel holds the arctangents of the model in degrees, at single numbers from -1/2 to 1/2. Horner's form is the
+-- sum of the terms over the first power; the terms that are left out are less than two parts of 2^-64; the square, the
+-- sum, the radians and the degrees are products whose high halves are off by a part each. So the degrees lie from 4
+-- parts of 2^-58 below the count to 9 above.
 use Rattle.std.proofs.Common.{◌≡◌, ℕ, zero, suc, ◌+◌, ◌*◌, ◌/◌, ◌-◌, ◌^◌, ◌≤◌, refl, ◌∙◌, sym, subst, ap, arith, Bool}
 use Rattle.std.proofs.Common.{true, false, ℤ, pos, negsuc, ◌+ℤ◌}
 use Rattle.std.proofs.Common.{◌-ℤ◌, ◌*ℤ◌, ◌≤ℤ◌, [], ◌∷◌}

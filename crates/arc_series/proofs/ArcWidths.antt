@@ -1,4 +1,6 @@
--- The bound of an arctangent, from the span over two endpoints.
+-- The bound of an arctangent, from the span over two endpoints. The endpoints of an enclosure keep its bound, in whole
+-- numbers; the span's width is 57.3 times theirs and 64 parts, and its range goes by the numbers whose arctangents are
+-- whole. Then by cases of the bound, and of every number no width is known.
 use Rattle.std.proofs.Common.{◌≡◌, ◌≤◌, ◌+◌, ◌*◌, ◌^◌, arith, ℕ, suc, ℤ, pos, negsuc, ◌+ℤ◌, ◌-ℤ◌, ◌*ℤ◌, ◌≤ℤ◌}
 use Rattle.std.specs.Int.{int_min, int_max}
 use Rattle.std.proofs.lemmas.Int.{ints, clamps}

@@ -1,5 +1,7 @@
 -- How wide the quotient of a negative number by a positive one is, and at which rate its arctangent moves: in a box of
--- sides that are at most v wide.
+-- sides that are at most v wide. An interval's range is drawn as near as 2^-32 allows (`IsTight`), so that the box has
+-- whole numbers for its sides (`IsBox`); a wide quotient is far from 0, where arctangents are slow, and the rate times
+-- the width is bounded for all boxes.
 use Rattle.std.specs.Prelude.{max, true, nat_lt}
 use Rattle.std.proofs.Common.{◌≡◌, ◌≤◌, ◌+◌, ◌-◌, ◌*◌, ◌/◌, ◌^◌, arith, ℕ, zero, suc, ℤ, pos, negsuc, ◌+ℤ◌, ◌-ℤ◌, ◌*ℤ◌}
 use Rattle.std.proofs.Common.{◌≤ℤ◌, ◌<ℤ◌}

@@ -1,4 +1,5 @@
--- 1 over the odd numbers from 1 to 57 in 64 bits, rounded down.
+-- 1 over the odd numbers from 1 to 57 in 64 bits, rounded down: each numeral of the kernel is compared with its
+-- fraction by computing.
 use Rattle.arc_series.specs.Kernel.{IsCut}
 
 pub cut_1 : IsCut 18446744073709551615 0

@@ -1,4 +1,6 @@
--- How wide the angle of a direction is, of numbers in a box.
+-- How wide the angle of a direction is, of numbers in a box. The bounds of the quotient, its arctangent and 90 degrees
+-- less that are computed over the box's sides (`implies`, evaluated), the width by the box's rate (`BoxQuotients`): so
+-- it is a row of the table.
 use Rattle.std.proofs.Common.{◌≡◌, ◌≤◌, ◌+◌, ◌-◌, ◌*◌, ◌^◌, refl, arith, true, ℕ, ℤ, pos, ◌≤ℤ◌, if◌then◌else◌, ◌==◌}
 use Rattle.std.proofs.lemmas.Int.{ints}
 use lib.IntN.{neg_ℤ}

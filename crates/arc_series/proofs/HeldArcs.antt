@@ -1,4 +1,6 @@
--- From spans at single numbers to those of what two endpoints have in common with the pieces.
+-- From spans at single numbers to those of what two endpoints have in common with the pieces. An arctangent grows with
+-- its number, so that the hull of the spans at both ends of a part holds all between; what an interval has in common
+-- with the pieces, one after the other, is all of it.
 use Rattle.std.proofs.Common.{◌≡◌, ℕ, ◌≤◌, ◌-◌, ◌^◌, refl, arith, Bool, true, false, cond, ℤ, pos, negsuc, ◌+ℤ◌, ◌≤ℤ◌}
 use Rattle.std.proofs.Common.{◌<ℤ◌, ◌⊎◌, inl, inr, Option, Some}
 use Rattle.std.proofs.Common.{None, List, [], ◌∷◌, ◌++◌, map}

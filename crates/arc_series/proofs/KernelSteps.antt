@@ -1,4 +1,7 @@
--- One step of Horner's form in 64 bits keeps what is near, and so do the square before it and the product after it.
+-- One step of Horner's form in 64 bits keeps what is near, and so do the square before it and the product after it. An
+-- inner number that is off by 4 is multiplied by a square of at most a quarter, and so is off by 1; the roundings of
+-- the coefficient, of the square and of the product add at most 1 each: the result is off by 4 again. Each side is one
+-- certificate over fractions, in which the unit 2^-64 is a variable.
 use Rattle.std.proofs.Common.{ℕ, suc, ◌*◌, ◌-◌, ◌^◌, ◌≤◌, refl, arith, ℤ, pos, negsuc, ◌+ℤ◌, ◌-ℤ◌, ◌≤ℤ◌, [], ◌∷◌}
 use Rattle.std.proofs.lemmas.Int.{ints}
 use Rattle.book_model.specs.Fraction.{Fraction, ◌≤F◌, whole, plus, opposite, times}

@@ -1,4 +1,6 @@
--- The arctangents of the pieces, by those of numbers from 0 to 1/2.
+-- The arctangents of the pieces, by those of numbers from 0 to 1/2. The code's quotient is the number that the
+-- definition takes in that piece, to one part; the constant of the piece is added, or subtracted for the negative ones,
+-- whose spans are the opposites.
 use Rattle.std.specs.Prelude.{unsigned_abs}
 use Rattle.std.proofs.Common.{◌≡◌, ℕ, zero, suc, ◌≤◌, ◌-◌, ◌*◌, ◌+◌, ◌^◌, refl, arith, ℤ, pos, negsuc, ◌+ℤ◌, ◌-ℤ◌, ◌≤ℤ◌}
 use Rattle.std.proofs.lemmas.Int.{ints}

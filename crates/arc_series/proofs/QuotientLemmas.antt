@@ -1,4 +1,6 @@
--- Quotients in 64 bits, and the numbers of which a piece takes the arctangent.
+-- Quotients in 64 bits, and the numbers of which a piece takes the arctangent. A quotient rounded down names its
+-- fraction to one part of 2^-64, by multiplying out; that it is at most a half, and that numerator and denominator fit,
+-- is linear in the piece's edges.
 use Rattle.std.proofs.Common.{◌≡◌, ℕ, zero, suc, ◌+◌, ◌*◌, ◌/◌, ◌%◌, ◌-◌, ◌^◌, ◌≤◌, refl, arith, pos, negsuc, ◌≤ℤ◌, []}
 use Rattle.std.proofs.Common.{◌∷◌}
 use Rattle.std.proofs.lemmas.Int.{ints}

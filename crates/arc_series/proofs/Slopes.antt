@@ -1,4 +1,5 @@
--- The sum of the arctangent's series and its endpoints rise by no more than the number does, from 0 to 1/2.
+-- The sum of the arctangent's series and its endpoints rise by no more than the number does, from 0 to 1/2: an
+-- alternating sum whose terms rise, each by less than the one before, rises by no more than its first term.
 use Rattle.std.proofs.Common.{ℕ, suc, refl, pos, negsuc, [], ◌∷◌}
 use Rattle.book_model.specs.Fraction.{Fraction, ◌≤F◌, ◌≈◌, plus, power, size}
 use Rattle.book_model.specs.Sums.{alternating, lower, upper}

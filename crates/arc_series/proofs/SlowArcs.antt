@@ -1,4 +1,7 @@
--- How wide an arctangent of negative numbers is at a rate, and what is moved into -180..180 degrees.
+-- How wide an arctangent of negative numbers is at a rate, and what is moved into -180..180 degrees. The endpoints of
+-- what is measured keep their bound in whole numbers; the span over them is as wide as the rate times that, rounded up,
+-- and 56 parts, by linear arithmetic and products of inequalities. Endpoints that are moved there are no further apart
+-- than before.
 use Rattle.std.specs.Prelude.{unsigned_abs}
 use Rattle.std.proofs.Common.{◌≡◌, ◌≤◌, ◌+◌, ◌-◌, ◌*◌, ◌^◌, arith, ℕ, ℤ, pos, ◌+ℤ◌, ◌-ℤ◌, ◌*ℤ◌, ◌≤ℤ◌}
 use Rattle.std.proofs.lemmas.Int.{ints, clamps}

@@ -1,7 +1,8 @@
 //! The arctangent of a number from 0 to 1/2, in 64 bits.
 //!
 //! All numbers are in units of 2⁻⁶⁴. The coefficients are 1 over an odd number, rounded down, and Horner's form takes them from the
-//! inside out. A step makes an error of at most 4 into one of at most 4, since the square of a number is at most 1/4.
+//! inside out. A step makes an error of at most 4 into one of at most 4: the square of a number is at most 1/4, which leaves 1
+//! of it, and the roundings of the coefficient, of the square and of the product add at most 1 each.
 //!
 //! 29 terms leave out less than two parts of 2⁻⁶⁴, so that an arctangent is four parts of 2⁻⁵⁶ wide; 26 would leave out
 //! 39, which are nine of 2⁻⁵⁶, and three products more are cheap. The steps are written out and inlined: no loop, no table, no

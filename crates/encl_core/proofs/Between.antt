@@ -1,4 +1,5 @@
--- Spans and enclosures within each other.
+-- Spans and enclosures within each other: the order of whole numbers in units of 2^-56 is that of the endpoints, and
+-- what lies within what a test shows to lie within a third is passed on by transitivity.
 use Rattle.std.specs.Prelude.{◌≡◌, ◌≤ℤ◌, Bool, IsTrue}
 use Rattle.std.proofs.Common.{arith}
 use Rattle.std.proofs.lemmas.Int.{ints}

@@ -1,4 +1,7 @@
--- The bounds of an undecided test are no further apart than its sides are wide.
+-- The bounds of an undecided test are no further apart than its sides are wide. A test is undecided where its sides
+-- meet, so that its bounds lie in the hull of what is measured: of a floor within one side, of a comparison within two
+-- that overlap. Then the distance in units of 2^-56 is at most the measured width, and the site's row of the table says
+-- how much is allowed.
 use Rattle.std.specs.Prelude.{◌≡◌, ℕ, ◌+◌, ◌^◌, ◌≤◌, Bool, true, false, not, cond, ℤ, pos, neg_ℤ, ◌-ℤ◌, ◌*ℤ◌, ◌≤ℤ◌}
 use Rattle.std.specs.Prelude.{Some, None, FitsSigned, refl}
 use Rattle.std.proofs.Common.{arith}

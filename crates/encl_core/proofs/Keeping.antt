@@ -1,5 +1,7 @@
 -- What a run has evaluated, and takes again: a program with no test, or with one, answers from every turn on as it did
--- from one.
+-- from one. By the few forms of a run of such a program (`answers_after`, evaluated): it answers at once, or after its
+-- one test. So the value that a trail holds is that of the program's leaf, whatever the turn from which it is taken,
+-- and only the count of tests goes on.
 use Rattle.std.proofs.Common.{◌≡◌, ℕ, ℤ, ◌≤◌, true, Option, Some, None, Ok, IfSome, refl}
 use Rattle.book_model.specs.Interval.{Interval, ◌⊆◌}
 use Rattle.book_model.proofs.Intervals.{within_trans}

@@ -1,4 +1,6 @@
--- Measures of enclosures: from the bound of an expression, and back.
+-- Measures of enclosures: from the bound of an expression, and back. An argument of a known width is one that keeps the
+-- bound with slope 1 and no slack. The computed bound of an expression implies (`implies`, which is evaluated) one with
+-- numbers, and its slope and slack at the argument's width are the width of what is enclosed.
 use Rattle.std.specs.Prelude.{◌≡◌, ℕ, ◌+◌, ◌*◌, ◌-◌, ◌^◌, ◌≤◌, true, ℤ, pos, ◌*ℤ◌, ◌≤ℤ◌}
 use Rattle.std.proofs.Common.{arith}
 use Rattle.std.proofs.lemmas.Int.{ints}

@@ -1,4 +1,6 @@
--- The sum over a table by its first rows and the others.
+-- The sum over a table by its first rows and the others. The definition sums row by row: by induction on the rows, the
+-- sum of the first ones is that of the shorter table, and so many of the others added to it are within the sum of both
+-- parts.
 use Rattle.std.specs.Prelude.{◌≡◌, ℕ, zero, suc, ◌+◌, ◌≤◌, pos, List, length, ◌++◌, slice_index_or, refl}
 use Rattle.std.proofs.Common.{arith}
 use Rattle.std.proofs.lemmas.List.{get_or_append_left, get_or-append-add, length-append}

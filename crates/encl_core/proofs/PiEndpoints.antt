@@ -1,4 +1,5 @@
--- Pi lies between its neighbours in units of 2^-56.
+-- Pi lies between its neighbours in units of 2^-56. That the model's pi does at depth 40 and deeper is proved in
+-- book_model; what holds the interval between the neighbours then holds pi, and their distance, one unit, is computed.
 use Rattle.std.proofs.Common.{ℕ, ◌≤◌, arith}
 use Rattle.std.proofs.lemmas.Int.{ints}
 use Rattle.book_model.specs.Fraction.{plus}

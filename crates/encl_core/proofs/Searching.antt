@@ -1,4 +1,6 @@
--- The steps of a search by day.
+-- The steps of a search by day. The definition is a recursion on how many days are left: each lemma unfolds it once,
+-- after so many days, and says how the program goes on (`Continues`) where the day's test is true, where it isn't and
+-- where it fails.
 use Rattle.std.proofs.Common.{◌≡◌, ℕ, suc, ◌+◌, ◌-◌, ◌<◌, ◌≤◌, Bool, true, false, cond, ℤ, pos, ◌+ℤ◌, arith, refl}
 use Rattle.std.proofs.lemmas.Int.{ints}
 use Rattle.std.specs.Prelude.{Ok, Err}

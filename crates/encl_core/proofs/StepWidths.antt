@@ -1,4 +1,6 @@
--- Undecided steps of what is measured are close, and what is left of a wrap is as wide as what was wrapped.
+-- Undecided steps of what is measured are close, and what is left of a wrap is as wide as what was wrapped. A step's
+-- failure has the bounds of its test, which `Closing` shows to be no further apart than the sides' widths together; a
+-- wrap keeps the bound of a remainder, which computes to the argument's width.
 use Rattle.std.specs.Prelude.{◌≡◌, ℕ, ◌+◌, ◌*◌, ◌^◌, ◌≤◌, ◌<◌, ℤ, pos, neg_ℤ, nat_lt, true}
 use Rattle.std.proofs.Common.{arith}
 use Rattle.std.proofs.lemmas.Bool.{lt-ltb}

@@ -1,4 +1,7 @@
--- Bounds by size and width alone: constants, their sines, and sums over rows.
+-- Bounds by size and width alone: constants, their sines, and sums over rows. A row's numbers are symbolic, so its
+-- bound isn't computed but covered by one of a known size and width (`IsCovered`): of a constant by rounding, of a sine
+-- since each extent that the definition distinguishes is small, by cases. Over a table sizes and widths add up, by
+-- induction on the rows.
 use Rattle.std.specs.Prelude.{◌≡◌, ℕ, zero, suc, ◌+◌, ◌*◌, ◌-◌, ◌^◌, ◌≤◌, ◌<◌, Bool, true, false, ◌&&◌, cond, nat_lt}
 use Rattle.std.specs.Prelude.{unsigned_abs, ℤ, pos, negsuc, neg_ℤ, ◌+ℤ◌, ◌-ℤ◌, ◌*ℤ◌, ◌≤ℤ◌, ◌<ℤ◌, List, slice_index_or}
 use Rattle.std.specs.Prelude.{refl}

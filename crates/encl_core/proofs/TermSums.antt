@@ -1,4 +1,5 @@
--- The sum of the terms of a table, row by row.
+-- The sum of the terms of a table, row by row: the definition's recursion as three equations, which a loop over the
+-- rows takes as a ruleset.
 use Rattle.std.proofs.Common.{◌≡◌, ℕ, ◌+◌, pos, refl, add-one, List, length, slice_index_or}
 use Rattle.book_model.specs.numbers.Expressions.{Expression, integer, add}
 use Rattle.book_model.specs.numbers.Terms.{terms_to, terms_of}

@@ -1,4 +1,5 @@
--- A cell outside 64 bits leaves the test undecided.
+-- A cell outside 64 bits leaves the test undecided: the endpoints' cell is a whole number that doesn't fit, which is
+-- one of the cases of the definition of an open cell, with no bounds to tell.
 use Rattle.std.proofs.Common.{◌≡◌, sym, ℤ}
 use Rattle.std.specs.Prelude.{FitsSigned, Some}
 use Rattle.std.specs.Int.{w64}

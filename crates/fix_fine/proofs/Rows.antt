@@ -1,4 +1,7 @@
--- The table of widths, from the endpoints that the operations give.
+-- The table of widths, from the endpoints that the operations give. A row speaks of the widths and sizes of enclosures;
+-- of one with endpoints these are their distance and the greater of their sizes, in whole numbers, and of one without
+-- there is nothing to show. Then a row is the `close` and `some` clauses of its operation, with room for 128 bits from
+-- the sizes; the lesser, the greater and the hull go by the bounds that just their arguments' endpoints keep.
 use Rattle.std.proofs.Common.{◌≡◌, ℕ, suc, ◌*◌, ◌^◌, ◌≤◌, ◌<◌, ◌+◌, arith, refl, Bool, true, max, unsigned_abs, ℤ, pos}
 use Rattle.std.proofs.Common.{◌+ℤ◌, ◌*ℤ◌, ◌-ℤ◌, ◌≤ℤ◌, ◌⊎◌, inl, inr, SFits, [], ◌∷◌, Option, Some, None}
 use Rattle.std.specs.Prelude.{neg_ℤ, nat_lt, IfSome, IsSome, ◌-◌, ◌/◌, ◌&&◌}

@@ -1,4 +1,7 @@
--- The high half of a product of two numbers of 64 bits, and numbers in units of 2^-64 as multiples of it.
+-- The high half of a product of two numbers of 64 bits, and numbers in units of 2^-64 as multiples of it. A product is
+-- its high half times 2^64 and less than that more (`IsHigh`). Numbers in units are multiples of one unit, so that
+-- inequalities between them become ones over fractions in which the unit is a variable: certificates of the crates
+-- above prove these.
 use Rattle.std.proofs.Common.{◌≡◌, ℕ, ◌+◌, ◌*◌, ◌/◌, ◌-◌, ◌^◌, ◌≤◌, arith, ℤ, pos, ◌+ℤ◌, ◌-ℤ◌}
 use Rattle.std.proofs.lemmas.Int.{ints}
 use Rattle.std.proofs.Math.Nat.{mul-le-mul_right}

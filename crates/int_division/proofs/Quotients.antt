@@ -1,4 +1,7 @@
--- Rounded quotients, over plain numbers.
+-- Rounded quotients, over plain numbers. What is linear is left to omega, over the cases of a number's sign; an
+-- inequality with products is a certificate, a sum of products of the inequalities that are known (`le_by`), which a
+-- normal form checks. So the definitions' quotients and those of the language lead to `IsFloor` and `IsCeiling`, by
+-- which the crates above go, and rounding outwards keeps order.
 use Rattle.std.proofs.Common.{◌≡◌, ℕ, zero, suc, ◌+◌, ◌-◌, ◌*◌, ◌/◌, ◌^◌, ◌≤◌, ◌<◌, refl, arith, ℤ, pos, negsuc, ◌+ℤ◌}
 use Rattle.std.proofs.Common.{◌*ℤ◌, ◌≤ℤ◌, ◌<ℤ◌, [], ◌∷◌}
 use Rattle.std.specs.Prelude.{int_div, neg_ℤ}

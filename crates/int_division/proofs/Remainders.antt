@@ -1,4 +1,6 @@
--- What quotients of counts leave.
+-- What quotients of counts leave. The definitions read a divisor of 0 as 1, so each lemma goes by the cases of the
+-- divisor: for one above 0 the quotient is that of the definitions, whose bounds (`floor_quotient_is`) say what is left
+-- and how large.
 use Rattle.std.specs.Prelude.{◌≡◌, ℕ, suc, ◌-◌, ◌<◌, ℤ, pos, ◌*ℤ◌, ◌-ℤ◌, ◌≤ℤ◌, ◌<ℤ◌, refl}
 use Rattle.std.proofs.Common.{zero, arith}
 use Rattle.std.proofs.lemmas.Int.{ints}

@@ -1,4 +1,6 @@
--- Quotients in two steps of 64 bits, and what they are together.
+-- Quotients in two steps of 64 bits, and what they are together. The quotient of the upper part and that of what it
+-- leaves make the whole, by one certificate each way (`steps_floor`); that each step fits its word is linear, given the
+-- bounds that `IsFloor` names. A quotient rounded up is one rounded down, of the number before.
 use Rattle.std.proofs.Common.{◌≡◌, ℕ, zero, suc, ◌/◌, ◌-◌, ◌^◌, ◌<◌, arith, ℤ, pos, negsuc, ◌+ℤ◌, ◌-ℤ◌, ◌*ℤ◌, ◌≤ℤ◌}
 use Rattle.std.proofs.Common.{◌<ℤ◌, ◌∙◌, refl, SFits, Fits, unsigned_abs, int_div, [], ◌∷◌}
 use lib.Dec.{T}

@@ -1,4 +1,7 @@
--- Products and quotients of numbers within ranges lie between those of the ranges' endpoints.
+-- Products and quotients of numbers within ranges lie between those of the ranges' endpoints. A product moves one way
+-- with each factor, so that what bounds it at both endpoints of a factor bounds it in between: twice for two factors.
+-- First of whole numbers, then of ranges in parts of s units, where rounding to a part moves the corners outwards. Each
+-- step is a certificate (`le_by`) over the inequalities that are known.
 use Rattle.std.proofs.Common.{◌≡◌, ℕ, suc, ◌-◌, ◌^◌, refl, arith, Bool, true, false, cond, int_le, neg_ℤ, ℤ, pos, ◌+ℤ◌}
 use Rattle.std.proofs.Common.{◌*ℤ◌, ◌-ℤ◌, ◌≤ℤ◌, ◌<ℤ◌, [], ◌∷◌}
 use Rattle.std.proofs.lemmas.Int.{ints, clamps, by_lt_z}

@@ -1,4 +1,7 @@
--- Quotients and squares of endpoints at a scale, rounded outwards.
+-- Quotients and squares of endpoints at a scale, rounded outwards. An inequality of whole numbers, as q c <= a k,
+-- becomes one of fractions at the scale by multiplying out (`by_cross`), by cases of the scale and of the divisor's
+-- sign. Two endpoints that hold the four products with the reciprocals of the divisor's endpoints hold all quotients
+-- (`HoldFour`); those by a divisor below 0 are those of the opposites. Squares go by the cases of `least_square_of`.
 use Rattle.interval_endpoints.specs.Scales.{Scale, coarse, fine, at_scale, at_square, unit}
 use Rattle.std.proofs.Common.{◌≡◌, ℕ, zero, suc, ◌^◌, ◌-◌, refl, sym, ap, subst, arith, Bool, true, false, cond, ℤ, pos}
 use Rattle.std.proofs.Common.{negsuc, ◌*ℤ◌, ◌-ℤ◌, ◌≤ℤ◌, ◌<ℤ◌, [], ◌∷◌, inl, inr}

@@ -1,4 +1,7 @@
--- What the operations on endpoints at a scale hold.
+-- What the operations on endpoints at a scale hold. By cases of the scale, endpoints are fractions over one known
+-- denominator, so that an operation's endpoints and the interval's are compared by multiplying out, which is linear or
+-- a certificate; and what is shown of them holds what lies between them (`kept_within`). Whatever has no endpoints is
+-- everything.
 use Rattle.interval_endpoints.specs.Scales.{Scale, coarse, fine, at_scale, at_square, unit}
 use Rattle.std.proofs.Common.{◌≡◌, suc, ◌+◌, ◌^◌, ◌-◌, refl, arith, ℤ, pos, negsuc, ◌+ℤ◌, ◌*ℤ◌, ◌-ℤ◌, ◌≤ℤ◌, [], ◌∷◌}
 use Rattle.std.proofs.Common.{◌⊎◌, inl, inr}

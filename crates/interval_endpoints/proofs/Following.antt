@@ -1,4 +1,7 @@
--- From the operations on intervals and bounds to those on expressions.
+-- From the operations on intervals and bounds to those on expressions. An expression's value, and its bound, unfold to
+-- those of its parts, and an operation on intervals is monotone: so what holds the operation on the parts' enclosures
+-- holds the expression (`within_..`), and what keeps the operation's bound keeps that of the expression (`narrow_..`).
+-- One lemma each for every operation, over any kind of enclosure.
 use Rattle.interval_endpoints.specs.Scales.{Scale, coarse, fine, bits_of, limits_on}
 use Rattle.std.proofs.Common.{ℕ, ◌≤◌, ℤ, pos, ◌*ℤ◌}
 use Rattle.book_model.specs.Fraction.{Fraction, whole}

@@ -1,4 +1,7 @@
--- Endpoints at a scale that hold the operations, and that keep a bound.
+-- Endpoints at a scale that hold the operations, and that keep a bound. A bound speaks of fractions. `AreKept` says it
+-- in whole numbers, and the two lead to each other by multiplying out (`kept_of`, `spans_of`): so that an operation
+-- keeps its bound is arithmetic on whole numbers. A bound is promised below a limit alone, below which the endpoints
+-- fit their word (`limited_narrow`); beyond it there is nothing to show.
 use Rattle.interval_endpoints.specs.Scales.{Scale, coarse, fine, at_scale, unit, limits_on, span, grain, word}
 use Rattle.interval_endpoints.specs.Scales.{most_size}
 use Rattle.std.proofs.Common.{◌≡◌, ℕ, ◌+◌, ◌*◌, ◌^◌, ◌<◌, refl, arith, Bool, true, false, ◌&&◌, ℤ, pos, ◌+ℤ◌, ◌*ℤ◌}

@@ -1,4 +1,5 @@
--- The margin of a fraction is the least that covers its size.
+-- The margin of a fraction is the least that covers its size: one that is greater than another number which covers it
+-- isn't rounded up, which a certificate refutes, at each of the two scales.
 use Rattle.interval_endpoints.specs.Scales.{Scale, coarse, fine, unit}
 use Rattle.std.proofs.Common.{◌≡◌, suc, ◌+◌, ◌^◌, refl, subst, arith, ℤ, pos, ◌+ℤ◌, ◌*ℤ◌, ◌≤ℤ◌, ◌<ℤ◌, [], ◌∷◌}
 use Rattle.std.specs.Prelude.{unsigned_abs}

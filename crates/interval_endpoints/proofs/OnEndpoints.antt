@@ -1,4 +1,6 @@
--- The endpoints of a word as endpoints at its scale.
+-- The endpoints of a word as endpoints at its scale. The lemmas on endpoints take a scale and whole numbers. These here
+-- lead to them from the endpoints of a word, by the two cases: they are there where both fit (`HasEndpoints`), and what
+-- they show is what lies between them (`ShowsEndpoints`).
 use Rattle.std.proofs.Common.{◌≡◌, refl, ℤ, ◌-ℤ◌, Option, Some, None}
 use Rattle.std.proofs.Common.{SFits}
 use Rattle.std.specs.Prelude.{IfSome, IsSome}

@@ -1,4 +1,6 @@
--- How far a number is above the beginning of its period, without room for the beginning itself.
+-- How far a number is above the beginning of its period, without room for the beginning itself. Each number on the way
+-- fits since it lies between bounds that the period and the modulus give: all linear, so that omega has them one by
+-- one.
 use Rattle.std.proofs.Common.{◌≡◌, ℕ, ◌^◌, ◌<◌, arith, ℤ, pos, ◌+ℤ◌, ◌*ℤ◌, ◌-ℤ◌, ◌≤ℤ◌, ◌<ℤ◌, SFits}
 use Rattle.std.specs.Int.{w64, w128}
 use Rattle.std.proofs.lemmas.Int.{ints}

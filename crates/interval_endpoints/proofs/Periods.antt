@@ -1,4 +1,6 @@
--- The periods of endpoints at a scale.
+-- The periods of endpoints at a scale. `cell_at` computes by the endpoints' floors, so that two equal periods, two
+-- different ones and everything are three equations that unfold; endpoints that are moved down by a whole number are
+-- compared by multiplying out.
 use Rattle.interval_endpoints.specs.Scales.{Scale, coarse, fine, at_scale, unit, below}
 use Rattle.std.proofs.Common.{◌≡◌, ℕ, ◌^◌, ◌-◌, refl, sym, ◌∙◌, arith, ℤ, ◌*ℤ◌, ◌-ℤ◌, Some, None}
 use Rattle.std.proofs.lemmas.Int.{ints}

@@ -1,4 +1,6 @@
--- Endpoints at a scale that keep the bounds of products and squares.
+-- Endpoints at a scale that keep the bounds of products and squares. In whole numbers: the corners' distance is at most
+-- each width times the other's size, what rounding adds is a unit, and the range is that of the corners (`Corners`).
+-- Then by cases of the two bounds: nothing is promised without one, or beyond the limit.
 use Rattle.interval_endpoints.specs.Scales.{Scale, coarse, fine, at_scale, unit, limits_on, span, grain, slack}
 use Rattle.std.proofs.Common.{◌≡◌, ℕ, suc, ◌+◌, ◌*◌, ◌-◌, ◌^◌, ◌≤◌, refl, sym, arith, Bool, true, false, cond, int_le}
 use Rattle.std.proofs.Common.{ℤ, pos, ◌+ℤ◌, ◌*ℤ◌, ◌-ℤ◌, ◌≤ℤ◌, [], ◌∷◌}

@@ -1,4 +1,7 @@
--- Quotients of endpoints at a scale by a divisor above 0: two of them enclose all, and they keep a bound.
+-- Quotients of endpoints at a scale by a divisor above 0: two of them enclose all, and they keep a bound. By the sign
+-- of the dividend's endpoint it is known by which divisor a quotient is the least (`IsLeastBy`), the greatest likewise;
+-- their distance is a certificate over the two widths, and the range that of `Corners`. A bound is promised where the
+-- divisor's range lies above 0 alone, so that all other cases of the bounds are immediate.
 use Rattle.interval_endpoints.specs.Scales.{Scale, coarse, fine, at_scale, unit, limits_on, span, grain, slack}
 use Rattle.std.proofs.Common.{◌≡◌, ℕ, zero, suc, ◌+◌, ◌*◌, ◌-◌, ◌^◌, ◌≤◌, ◌<◌, refl, arith, unsigned_abs, ℤ, pos}
 use Rattle.std.proofs.Common.{negsuc, ◌+ℤ◌, ◌*ℤ◌, ◌-ℤ◌, ◌≤ℤ◌, ◌<ℤ◌, [], ◌∷◌, inl, inr}

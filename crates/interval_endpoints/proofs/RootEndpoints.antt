@@ -1,4 +1,7 @@
--- Roots of endpoints at a scale, and endpoints that are cut to -1..1.
+-- Roots of endpoints at a scale, and endpoints that are cut to -1..1. Roots are compared by their squares: of two whole
+-- numbers the one with the lesser square is not the greater. A unit of the scale is itself a square, so that a root in
+-- units stands on the grid on which the definition takes its roots. What is cut is the lesser and the greater of
+-- numbers.
 use Rattle.interval_endpoints.specs.Scales.{Scale, coarse, fine, at_scale, unit, half_bits}
 use Rattle.std.proofs.Common.{◌≡◌, ℕ, zero, suc, ◌≤◌, ◌^◌, ◌*◌, arith, ℤ, pos, negsuc, ◌+ℤ◌, ◌*ℤ◌, ◌≤ℤ◌, ◌⊎◌, inl, inr}
 use lib.IntN.{neg_ℤ}

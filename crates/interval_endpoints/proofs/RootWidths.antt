@@ -1,4 +1,6 @@
--- Roots of endpoints, and endpoints that are cut to -1..1, keep their bounds.
+-- Roots of endpoints, and endpoints that are cut to -1..1, keep their bounds. No root stands in a bound: the width of
+-- the roots times the least root is bounded by the width of the numbers, so both sides are compared as squares, by
+-- splitting on which of two whole numbers is the greater and multiplying out.
 use Rattle.interval_endpoints.specs.Scales.{Scale, coarse, fine, at_scale, unit, units, bits_of, limits_on, bits_of}
 use Rattle.interval_endpoints.specs.Scales.{spans, grains, slack}
 use Rattle.std.proofs.Common.{◌≡◌, ℕ, zero, suc, ◌+◌, ◌*◌, ◌-◌, ◌/◌, ◌^◌, ◌≤◌, ◌<◌, refl, subst, arith, Bool, true}

@@ -1,4 +1,6 @@
--- How far apart endpoints are that are rounded outwards.
+-- How far apart endpoints are that are rounded outwards: a quotient rounded up is at most 1 more than that rounded
+-- down, and each further operation adds its own width. The differences of products are certificates by the factor's
+-- sign, the rest is linear.
 use Rattle.std.proofs.Common.{◌≡◌, ℕ, suc, ◌+◌, refl, arith, unsigned_abs, ℤ, pos, negsuc, ◌+ℤ◌, ◌*ℤ◌, ◌-ℤ◌, ◌≤ℤ◌, ◌<ℤ◌}
 use Rattle.std.proofs.Common.{[], ◌∷◌}
 use Rattle.std.proofs.lemmas.Int.{ints, by_lt_z}

@@ -1,4 +1,8 @@
--- Fractions, and products with fractions, at a scale: endpoints rounded outwards hold them and keep a bound.
+-- Fractions, and products with fractions, at a scale: endpoints rounded outwards hold them and keep a bound. The
+-- endpoints are two quotients of whole numbers (`AreScaled` names all that the code computes, `AreProducts` what
+-- matters of it). That they hold is multiplying out; that they keep a bound is done in whole numbers: the width by
+-- `close_z`, the range by the quotients of the range's own endpoints. Numerators and products that the limits allow fit
+-- in 128 bits; beyond them nothing is promised.
 use Rattle.interval_endpoints.specs.Scales.{Scale, coarse, fine, at_scale, unit, limits_on, span, spans, grain, slack}
 use Rattle.interval_endpoints.specs.Scales.{most_numerator, most_product}
 use Rattle.std.proofs.Common.{◌≡◌, ℕ, suc, ◌+◌, ◌*◌, ◌^◌, ◌-◌, ◌≤◌, ◌<◌, refl, sym, arith, Bool, true, false, ◌&&◌, ℤ}

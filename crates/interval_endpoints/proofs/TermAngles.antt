@@ -1,4 +1,7 @@
--- The angle of a periodic term at scale 2^-36: a phase and a rate times the days, by one quotient at each endpoint.
+-- The angle of a periodic term at scale 2^-36: a phase and a rate times the days, by one quotient at each endpoint. The
+-- phase and the rate stand over one denominator, D, so that the endpoints hold the sum by multiplying out. The bound is
+-- that of the phase and the product rounded apart: these two quotients lie further out than the one, and so the one is
+-- no wider.
 use Rattle.interval_endpoints.specs.Scales.{coarse}
 use Rattle.std.proofs.Common.{◌≡◌, ℕ, ◌^◌, refl, arith, ℤ, pos, ◌+ℤ◌, ◌*ℤ◌, ◌≤ℤ◌, ◌<ℤ◌}
 use lib.IntN.{neg_ℤ}

@@ -1,4 +1,6 @@
--- The tests at endpoints of a scale.
+-- The tests at endpoints of a scale. A test on intervals computes by comparisons of the endpoints' fractions: over one
+-- denominator these are the comparisons of whole numbers that the code makes, so each outcome is an equation that
+-- unfolds. An undecided test has the bounds of the hull of its sides.
 use Rattle.interval_endpoints.specs.Scales.{Scale, coarse, fine, at_scale, below, finer_units}
 use Rattle.std.proofs.Common.{◌≡◌, ◌^◌, ◌-◌, refl, sym, ◌∙◌, arith, Bool, true, false, ℤ, pos, negsuc, ◌*ℤ◌, ◌≤ℤ◌, ◌<ℤ◌}
 use Rattle.std.proofs.Common.{Some, None}

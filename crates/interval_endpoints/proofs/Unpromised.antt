@@ -1,4 +1,6 @@
--- The clauses on widths at a scale of which nothing is promised, and endpoints that are moved outwards.
+-- The clauses on widths at a scale of which nothing is promised, and endpoints that are moved outwards. With no limits
+-- every operation's bound computes to none, by cases of its arguments' bounds, so that such a kind of enclosure has
+-- nothing to show of widths; of expressions it is the same, at scale 2^-8.
 use Rattle.std.proofs.Common.{ℕ, zero, suc, arith, ℤ, pos, negsuc, ◌≤ℤ◌}
 use Rattle.std.proofs.Math.Dec.{leb-suc-zero}
 use Rattle.std.proofs.lemmas.Int.{ints}

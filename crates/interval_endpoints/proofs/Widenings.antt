@@ -1,4 +1,6 @@
--- Hulls and widenings of endpoints at a scale keep their bounds.
+-- Hulls and widenings of endpoints at a scale keep their bounds. In whole numbers (`AreKept`): a hull's width is the
+-- sum of both where ranges meet, as its bound has it, and a margin is at most the size of its fraction and a unit. From
+-- there by cases of the bounds, as in `Keeping`.
 use Rattle.interval_endpoints.specs.Scales.{Scale, coarse, fine, at_scale, unit, limits_on, slack, span, grain}
 use Rattle.std.proofs.Common.{◌≡◌, ℕ, suc, ◌+◌, ◌*◌, ◌^◌, ◌<◌, refl, sym, arith, Bool, true, false, ◌&&◌, nat_lt, ℤ}
 use Rattle.std.proofs.Common.{pos, ◌+ℤ◌, ◌*ℤ◌, ◌-ℤ◌, ◌≤ℤ◌, ◌<ℤ◌, [], ◌∷◌, subst}

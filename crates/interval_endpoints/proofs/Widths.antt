@@ -1,5 +1,7 @@
--- Endpoints at a scale that keep the bounds of differences, opposites, the lesser and the greater,
--- remainders, and of endpoints in units of 2^-56.
+-- Endpoints at a scale that keep the bounds of differences, opposites, the lesser and the greater, remainders, and of
+-- endpoints in units of 2^-56. Each operation has a lemma in whole numbers (`.._kept`), by linear arithmetic at each
+-- scale, and one over bounds (`.._narrow`), by cases of these; and where an argument is everything, none is promised
+-- (`.._of_all`).
 use Rattle.interval_endpoints.specs.Scales.{Scale, coarse, fine, at_scale, unit, limits_on, slack, finer_units}
 use Rattle.interval_endpoints.specs.Scales.{most_size}
 use Rattle.std.proofs.Common.{◌≡◌, ℕ, suc, ◌+◌, ◌*◌, ◌-◌, ◌^◌, ◌≤◌, ◌<◌, max, refl, sym, arith, Bool, true, false}

@@ -1,4 +1,7 @@
--- How far apart the endpoints are that are rounded outwards.
+-- How far apart the endpoints are that are rounded outwards. The greatest and the least of products, squares or
+-- quotients are bounded first, by the widths and the sizes of what they are of, and rounding adds a unit at each end. A
+-- quotient by a divisor below 0 is one of opposites, and a root is compared by squares. What is not linear is a
+-- certificate (`le_by`).
 use Rattle.std.proofs.Common.{◌≡◌, ℕ, ◌<◌, arith, refl, int_le, ℤ, pos, negsuc, ◌+ℤ◌, ◌*ℤ◌, ◌-ℤ◌, ◌≤ℤ◌, ◌<ℤ◌, ◌⊎◌, inl}
 use Rattle.std.proofs.Common.{inr, [], ◌∷◌}
 use Rattle.std.proofs.lemmas.Int.{ints}

@@ -1,4 +1,6 @@
--- Where 128 bits have no room, no bound is promised.
+-- Where 128 bits have no room, no bound is promised. By cases of the scale: in 64 bits there is always room; at the
+-- finer scale a bound that is promised has a range below its limits, the endpoints lie in it (`sized`), and so their
+-- products, quotients and roots are below what 128 bits hold, against the premise that there was no room.
 use Rattle.std.proofs.Common.{◌≡◌, ℕ, zero, suc, ◌*◌, ◌^◌, ◌≤◌, ◌<◌, ◌-◌, arith, refl, sym, Bool, true, false, ◌&&◌}
 use Rattle.std.proofs.Common.{nat_lt, ℤ, pos, negsuc, ◌*ℤ◌, ◌-ℤ◌, ◌≤ℤ◌, ◌<ℤ◌, SFits, inl, inr}
 use Rattle.std.specs.Int.{w128}

@@ -1,4 +1,6 @@
--- Quotients in two steps: the whole quotient, and what it leaves, raised to the scale.
+-- Quotients in two steps: the whole quotient, and what it leaves, raised to the scale. The parts add up to the dividend
+-- (`HasParts`), so the two rounded quotients add up to the rounded one; that each part fits is linear in the bounds of
+-- `HasFineQuotient`.
 use Rattle.std.proofs.Common.{◌≡◌, zero, suc, ◌+◌, ◌^◌, arith, ℤ, pos, negsuc, ◌+ℤ◌, ◌*ℤ◌, ◌-ℤ◌, ◌≤ℤ◌, ◌<ℤ◌, SFits}
 use Rattle.std.proofs.Common.{refl, [], ◌∷◌}
 use Rattle.std.specs.Prelude.{Option, Some, None, SomeIff, IsSome}

@@ -1,4 +1,6 @@
--- Angles, and the octants of a turn, as the code reads them.
+-- Angles, and the octants of a turn, as the code reads them. Degrees are a whole number over 180 times pi: products of
+-- fractions and intervals are regrouped, by what holds for both endpoints, until the code's count stands in them. Which
+-- octant of its turn an angle is in, and whether sine or cosine is taken there, goes by cases as the definition does.
 use Rattle.std.proofs.Common.{◌≡◌, ℕ, zero, suc, ◌≤◌, refl, ap, arith, unsigned_abs, ℤ, pos, negsuc, ◌-ℤ◌, ◌*ℤ◌, ◌≤ℤ◌}
 use Rattle.std.proofs.Common.{◌*◌, ◌-◌, ◌^◌, [], ◌∷◌}
 use Rattle.std.proofs.lemmas.Int.{ints}

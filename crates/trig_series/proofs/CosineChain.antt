@@ -1,4 +1,6 @@
--- The cosine's endpoints at an angle, as a chain of steps.
+-- The cosine's endpoints at an angle, as a chain of steps. The code's numbers, one for each step of Horner's form, are
+-- a record (`Chain`); each step keeps what is near (`next`, of SineChain), from the innermost coefficient outwards, and
+-- what the chain gives is the endpoint of the series at depth 9, which deeper ones lie within.
 use Rattle.std.proofs.Common.{◌≡◌, ℕ, zero, suc, ◌+◌, ◌-◌, ◌≤◌, refl, arith, pos, negsuc, [], ◌∷◌}
 use Rattle.book_model.specs.Fraction.{Fraction, ◌≤F◌, ◌≈◌, whole, opposite, times}
 use Rattle.book_model.specs.Sums.{lower, upper, inner}

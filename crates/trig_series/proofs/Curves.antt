@@ -1,4 +1,6 @@
--- The sine lies between two chords of the first octant, and the cosine above 1 less half its angle's square.
+-- The sine lies between two chords of the first octant, and the cosine above 1 less half its angle's square. From the
+-- first two terms of the alternating series, whose sums bound it: the inequalities are polynomial in the angle and are
+-- certificates, with the radians of a degree between two known fractions.
 use Rattle.std.proofs.Common.{ℕ, suc, ◌^◌, ◌*◌, ◌≤◌, refl, arith, ℤ, pos, negsuc, ◌-ℤ◌, ◌*ℤ◌, ◌≤ℤ◌, [], ◌∷◌}
 use Rattle.std.proofs.lemmas.Int.{ints}
 use Rattle.book_model.specs.Fraction.{Fraction, ◌≤F◌, ◌≈◌, whole, plus, times, power}

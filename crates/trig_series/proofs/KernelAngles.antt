@@ -1,4 +1,6 @@
--- Degrees in radians, and the series over them.
+-- Degrees in radians, and the series over them. Pi is replaced by its two neighbours in units of 2^-56: so degrees in
+-- radians lie between two fractions, and a count of 64 bits is within 68 parts of both. A series over an interval of
+-- angles lies between its endpoints at the interval's ends, since both move one way in the first octant.
 use Rattle.std.proofs.Common.{◌≡◌, ℕ, zero, suc, ◌+◌, ◌*◌, ◌/◌, ◌^◌, ◌≤◌, refl, arith, pos, ◌+ℤ◌, ◌-ℤ◌}
 use Rattle.std.proofs.lemmas.Int.{ints}
 use Rattle.book_model.specs.Fraction.{Fraction, ◌≤F◌, times}

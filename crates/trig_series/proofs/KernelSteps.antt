@@ -1,4 +1,6 @@
--- One step of Horner's form in 64 bits keeps what is near.
+-- One step of Horner's form in 64 bits keeps what is near. The product's high half is off by less than one part
+-- (`IsHigh`), the square by 112 and the inner number by 320, all times numbers that are known to be small: so the
+-- result is off by 320 again. Each side is one certificate over fractions, in which the unit 2^-64 is a variable.
 use Rattle.std.proofs.Common.{ℕ, ◌*◌, ◌-◌, ◌^◌, ◌≤◌, refl, arith, ℤ, pos, negsuc, ◌+ℤ◌, ◌-ℤ◌, [], ◌∷◌}
 use Rattle.std.proofs.lemmas.Int.{ints}
 use Rattle.book_model.specs.Fraction.{Fraction, ◌≤F◌, whole, plus, opposite, times}

@@ -1,4 +1,6 @@
--- How wide a sine and a cosine are at the scale 2^-56, whatever the degrees.
+-- How wide a sine and a cosine are at the scale 2^-56, whatever the degrees. What is measured keeps a bound with any
+-- range, and the bound of a sine then computes to a 57th of the width, 36 parts and two units, which the row of the
+-- table allows.
 use Rattle.std.specs.Prelude.{◌≡◌, ℕ, ◌+◌, ◌*◌, ◌/◌, ◌^◌, pos, neg_ℤ}
 use Rattle.std.proofs.Common.{arith}
 use Rattle.std.proofs.lemmas.Int.{ints}

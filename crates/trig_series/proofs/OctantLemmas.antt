@@ -1,4 +1,7 @@
--- The sine over an octant that two endpoints meet, and over all of these.
+-- The sine over an octant that two endpoints meet, and over all of these. The part of an octant is cut out by the
+-- greater and the lesser of whole numbers, which are the definition's larger and smaller fractions. Quotients by 45
+-- degrees number the octants, by the bounds of a floor; and the hull over all of them is the definition's recursion,
+-- one octant more at a time.
 use Rattle.std.proofs.Common.{◌≡◌, ℕ, zero, suc, ◌≤◌, ◌/◌, ◌∙◌, refl, arith, neg_ℤ, ℤ, pos, ◌+ℤ◌, ◌-ℤ◌, ◌*ℤ◌, ◌≤ℤ◌}
 use Rattle.std.proofs.Common.{◌<ℤ◌}
 use Rattle.std.specs.Int.{int_div_euclid, int_max, int_min}

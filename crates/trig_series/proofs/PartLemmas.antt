@@ -1,4 +1,7 @@
--- The series over a part of an octant, from their endpoints at its first angle.
+-- The series over a part of an octant, from their endpoints at its first angle. From one angle to a later one of the
+-- octant the endpoints move by at most the angle (`Slopes`), which is less than a 57th of the degrees: so the span at
+-- the first angle, moved by that, holds both. That a part lies near 0, or near 1, is shown for the first half turn, and
+-- carried to all octants by cases.
 use Rattle.std.proofs.Common.{◌≡◌, ℕ, zero, suc, ◌-◌, ◌≤◌, refl, arith, neg_ℤ, unsigned_abs, ℤ, pos, negsuc, ◌+ℤ◌, ◌-ℤ◌}
 use Rattle.std.proofs.Common.{◌*ℤ◌, ◌≤ℤ◌, ◌<ℤ◌, [], ◌∷◌}
 use Rattle.std.proofs.lemmas.Int.{ints, clamps, by_lt_z}

@@ -1,4 +1,7 @@
--- Spans at single angles of the first octant: they hold the series, and are near its endpoints.
+-- Spans at single angles of the first octant: they hold the series, and are near its endpoints. The code's number is
+-- within 384 parts of 2^-64 of the series' endpoints (the chains), and the span is drawn around it in units of 2^-56.
+-- At 0 degrees the series is computed symbolically, with an angle of 0, and at 45 degrees by the kernel's own numbers,
+-- which are known.
 use Rattle.std.proofs.Common.{ℕ, zero, suc, ◌+◌, ◌*◌, ◌-◌, ◌^◌, ◌≤◌, refl, arith, ℤ, pos, negsuc, ◌+ℤ◌, ◌-ℤ◌, ◌*ℤ◌}
 use Rattle.std.proofs.Common.{◌≤ℤ◌, [], ◌∷◌}
 use Rattle.std.proofs.lemmas.Int.{ints}

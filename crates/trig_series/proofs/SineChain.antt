@@ -1,4 +1,7 @@
--- The endpoints of the series at an angle, as chains of steps.
+-- The endpoints of the series at an angle, as chains of steps. An endpoint at depth 8 is the angle times a nested form,
+-- from the outside in as the definition has it, from the inside out as the code does. The code's numbers are a record
+-- (`Chain`); each coefficient is 2^64 times its fraction, rounded down (`cut_..`), and each step keeps what is near
+-- (`next`).
 use Rattle.std.proofs.Common.{◌≡◌, ℕ, zero, suc, ◌+◌, ◌-◌, ◌^◌, ◌≤◌, refl, arith, pos, negsuc, [], ◌∷◌}
 use Rattle.book_model.specs.Fraction.{Fraction, ◌≤F◌, ◌≈◌, whole, plus, opposite, times}
 use Rattle.book_model.specs.Sums.{lower, upper, inner}

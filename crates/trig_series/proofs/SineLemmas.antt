@@ -1,4 +1,7 @@
--- Sine, cosine and tangent as operations of enclosures.
+-- Sine, cosine and tangent as operations of enclosures. What the spans hold, and how wide they are, is shown of the
+-- functions on endpoints; here it is cut to -1..1, taken over 90 degrees more for a cosine, and carried to expressions.
+-- The bound goes by what the definition tells of values: their extent far from 0, near 0, near 90 degrees and inside an
+-- octant, case by case.
 use Rattle.std.proofs.Common.{◌≡◌, ℕ, zero, suc, ◌+◌, ◌*◌, ◌-◌, ◌^◌, ◌≤◌, ◌<◌, unsigned_abs, [], ◌∷◌, refl, sym, arith}
 use Rattle.std.proofs.Common.{Bool, true, false, cond, neg_ℤ, ℤ}
 use Rattle.std.proofs.Common.{pos, ◌+ℤ◌, ◌-ℤ◌, ◌*ℤ◌, ◌≤ℤ◌, ◌<ℤ◌, ◌⊎◌, inl, inr}

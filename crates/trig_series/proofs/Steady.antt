@@ -1,4 +1,7 @@
--- Spans at two angles of an octant are hardly further apart than a 57th of what the angles are.
+-- Spans at two angles of an octant are hardly further apart than a 57th of what the angles are. At each of the two the
+-- span is near the series' endpoints, which move no more than the angle (`Slopes`); in whole numbers that is linear.
+-- From an edge where the sine is known the same holds of one angle alone; then it is carried to the octants of a turn
+-- and to hulls.
 use Rattle.std.proofs.Common.{◌≡◌, ℕ, zero, suc, ◌-◌, ◌≤◌, refl, arith, neg_ℤ, unsigned_abs, ◌<ℤ◌, ℤ, pos, negsuc, ◌+ℤ◌}
 use Rattle.std.proofs.Common.{◌-ℤ◌, ◌*ℤ◌, ◌≤ℤ◌, [], ◌∷◌}
 use Rattle.std.specs.Int.{int_max, int_min}

@@ -1,4 +1,6 @@
--- The octants of a turn, where the code finds spans.
+-- The octants of a turn, where the code finds spans. By cases of the octant, as the definition: sine or cosine, of the
+-- angle or of what is left to 45 degrees, and four octants later the opposite. Where an octant ends the next begins
+-- with the same value, and so widths over several octants add up by induction on their number.
 use Rattle.std.proofs.Common.{◌≡◌, ℕ, zero, suc, ◌-◌, ◌≤◌, refl, ap, arith, neg_ℤ, unsigned_abs, ℤ, pos, negsuc, ◌+ℤ◌}
 use Rattle.std.proofs.Common.{◌-ℤ◌, ◌*ℤ◌, ◌≤ℤ◌, ◌⊎◌, inl, inr}
 use Rattle.std.specs.Int.{int_min, int_max}

@@ -1,7 +1,13 @@
 //! Sine and cosine in the first octant, in 64 bits.
 //!
 //! All numbers are in units of 2⁻⁶⁴. The coefficients are 1 / n!, rounded down, and Horner's form takes them from the inside
-//! out. A step makes an error of at most 320 into one of at most 320, since the square of an angle is at most 16/25.
+//! out. Why errors are bounded as they are, of angles up to 45 degrees, which are less than 4/5:
+//! - an angle is known to 68: pi's neighbours in units of 2⁻⁵⁶ leave 64, the product's rounding, doubled, 2, and the factor's
+//!   less than 2;
+//! - so its square is known to 112: twice 4/5 of 68 are 109, and rounding adds 1;
+//! - a step makes an error of at most 320 into one of at most 320: 16/25 of it are 205, the square's times a half at most 56,
+//!   and two roundings add 2;
+//! - a sine is known to 384: 4/5 of 320 are 256, the angle's 68, and rounding adds 1.
 //!
 //! One scale for every kind of enclosure, whose own scale the endpoints get by `from_span`. Each step is inlined: the
 //! terms run as one line of multiplications, with no loop, no table and no bounds checks.
