@@ -21,7 +21,7 @@ use encl_core::parts::{ONE, QUARTER, TURN};
 use encl_core::{Enclosure, Span};
 
 /// 2⁶⁴ degrees, in units of 2⁻⁵⁶. Further from 0 the octants of degrees are not counted, and a sine is any from -1 to 1.
-const FAR: i128 = 1 << 120;
+const MAX_DEGREES_56: i128 = 1 << 120;
 
 /// What every sine lies in.
 fn all_sines() -> Span
@@ -56,10 +56,10 @@ fn sine_over_span(degrees: Span) -> Span
         (units_of_56 result.hi) }
     ensures narrow { IsNarrowSine degrees.lo degrees.hi result.lo result.hi }
 {
-    if degrees.lo < -FAR {
+    if degrees.lo < -MAX_DEGREES_56 {
         return all_sines();
     }
-    if degrees.hi > FAR {
+    if degrees.hi > MAX_DEGREES_56 {
         return all_sines();
     }
     if degrees.hi - degrees.lo >= TURN {
@@ -76,7 +76,7 @@ fn cosine_over_span(degrees: Span) -> Span
         (units_of_56 result.hi) }
     ensures narrow { IsNarrowCosine degrees.lo degrees.hi result.lo result.hi }
 {
-    if degrees.hi > FAR {
+    if degrees.hi > MAX_DEGREES_56 {
         return all_sines();
     }
     sine_over_span(Span {

@@ -11,8 +11,8 @@ ghost use Rattle.book_model.specs.numbers.Depth.{DEPTH};
 
 use crate::parts::part_of_turn;
 use crate::points::{cosine_endpoints_at_degrees, opposite, sine_endpoints_at_degrees};
-use encl_core::Span;
 use encl_core::parts::{OCTANT, WIDE_OCTANT};
+use encl_core::{Span, shr_floor};
 
 /// The sine at so many degrees into an octant of the first half turn.
 #[inline(always)]
@@ -79,7 +79,7 @@ fn octant_in_turn(octant: i128) -> i128
     ensures value { result ≡ pos (octant_of_turn octant) }
     ensures few { result ≤ℤ pos 7 }
 {
-    octant - (octant >> 3) * 8
+    octant - shr_floor::<3>(octant) * 8
 }
 
 /// The sine at a number of degrees in an octant.
@@ -133,14 +133,17 @@ fn sine_over_degrees_in_octant(octant: i128, lo: i128, hi: i128) -> Span
     hull(low, high)
 }
 
-/// How often 45 goes into a number, rounded down. What is divided is 2²⁷ times 45 greater, and so isn't below 0: a
-/// division without a sign by a constant is a multiplication.
+/// How often 45 is added to a number of 32 bits, so that it isn't below 0: a division without a sign by a constant is a
+/// multiplication.
+const TIMES_ADDED: i64 = 1 << 27;
+
+/// How often 45 goes into a number, rounded down.
 #[inline(always)]
 fn times_of_45(number: i32) -> i64
     ensures value { result ≡ int_div_euclid number (pos 45) }
 {
-    let raised = (i64::from(number) + 6_039_797_760) as u64;
-    (raised / 45) as i64 - 134_217_728
+    let raised = (i64::from(number) + 45 * TIMES_ADDED) as u64;
+    (raised / 45) as i64 - TIMES_ADDED
 }
 
 /// How often an octant goes into degrees, in units of 2⁻⁵⁶, rounded down: as often as 45 into their whole number,
@@ -149,7 +152,7 @@ fn times_of_45(number: i32) -> i64
 fn octants_in(degrees: i128) -> i128
     ensures value { result ≡ int_div_euclid degrees (pos OCTANT) }
 {
-    let whole = degrees >> 56;
+    let whole = shr_floor::<56>(degrees);
     match i32::try_from(whole) {
         Ok(small) => i128::from(times_of_45(small)),
         Err(_) => whole.div_euclid(45),

@@ -10,11 +10,11 @@ returns-then-degrees-clause-holds c =
     λ n l. all_hold n _ _ _ (order_at c.args.degrees.lo c.args.degrees.hi c.args.degrees.ordered)
     c.all_sines.ensures.low c.all_sines.ensures.high
 
-pub returns-then-degrees-gt-FAR-clause-holds : goal.returns-then-degrees-gt-FAR-clause-holds
-returns-then-degrees-gt-FAR-clause-holds c =
+pub returns-then-degrees-gt-MAX_DEGREES_56-clause-holds : goal.returns-then-degrees-gt-MAX_DEGREES_56-clause-holds
+returns-then-degrees-gt-MAX_DEGREES_56-clause-holds c =
     λ n l. all_hold n _ _ _ (order_at c.args.degrees.lo c.args.degrees.hi c.args.degrees.ordered)
-    c.all_sines-then-degrees-gt-FAR.ensures.low
-    c.all_sines-then-degrees-gt-FAR.ensures.high
+    c.all_sines-then-degrees-gt-MAX_DEGREES_56.ensures.low
+    c.all_sines-then-degrees-gt-MAX_DEGREES_56.ensures.high
 
 pub returns-then-degrees-ge-TURN-clause-holds : goal.returns-then-degrees-ge-TURN-clause-holds
 returns-then-degrees-ge-TURN-clause-holds c =
@@ -27,7 +27,7 @@ returns-then-degrees-ge-TURN-clause-narrow c =
     let fa : SFits w128 c.args.degrees.lo = search rules in
     let fb : SFits w128 c.args.degrees.hi = search rules in
     let fd : SFits w128 (c.args.degrees.hi -ℤ c.args.degrees.lo) =
-    omega (arith, ints, c.args.degrees.ordered, c.if-degrees.false, c.if-degrees-gt-FAR.false) in
+    omega (arith, ints, c.args.degrees.ordered, c.if-degrees.false, c.if-degrees-gt-MAX_DEGREES_56.false) in
     let t = simp to_z-of_z at c.if-degrees-ge-TURN.true in
     apart_sine c.args.degrees.lo c.args.degrees.hi _ _ (omega (arith, ints, t))
     c.all_sines-then-degrees-ge-TURN.ensures.low

@@ -1,7 +1,10 @@
+use Rattle.std.specs.Prelude.{unsigned_abs}
 use Rattle.std.proofs.Common.{◌^◌, rules, arith, SFits, ℤ, pos, neg_ℤ, ◌+ℤ◌, ◌-ℤ◌, ◌*ℤ◌, ◌≤ℤ◌}
 use Rattle.std.specs.Int.{w128}
 use Rattle.std.proofs.lemmas.Int.{ints, to_z-of_z}
+use Rattle.book_model.specs.numbers.Octants.{octant_of_turn}
 use Rattle.encl_core.specs.parts.TheConstants.{OCTANT}
+use Rattle.trig_series.specs.Points.{IsPart}
 use Rattle.trig_series.proofs.PartLemmas.{turned_part, within_holds, part_small, part_crest}
 use Rattle.trig_series.proofs.octants.sine_within_octant.Goals as goal
 
@@ -48,8 +51,11 @@ returns-clause-narrow c =
     let n = simp to_z-of_z at c.part_of_turn.ensures.narrow in
     omega (arith, ints, n, c.requires.begun, c.requires.ordered)
 
-pub returns-clause-near : goal.returns-clause-near
-returns-clause-near c =
+-- the part of the octant as one of its turn
+of_turn : (c : goal.After-part_of_turn)
+    → IsPart (octant_of_turn c.args.octant) (unsigned_abs (c.args.lo -ℤ c.args.octant *ℤ pos OCTANT))
+    (unsigned_abs (c.args.hi -ℤ c.args.octant *ℤ pos OCTANT)) c.part_of_turn.result.lo c.part_of_turn.result.hi
+of_turn c =
     let fo = c.ranges.octant in
     let fl = c.ranges.lo in
     let fh = c.ranges.hi in
@@ -63,36 +69,13 @@ returns-clause-near c =
     let p = simp to_z-of_z at c.part_of_turn.ensures.near in
     turned_part c.args.octant c.octant_in_turn.result _ _ _ _ v p
 
+pub returns-clause-near : goal.returns-clause-near
+returns-clause-near c = of_turn c
+
 pub returns-clause-small : goal.returns-clause-small
 returns-clause-small c =
-    let fo = c.ranges.octant in
-    let fl = c.ranges.lo in
-    let fh = c.ranges.hi in
-    let ft : SFits w128 c.octant_in_turn.result = search rules in
-    let r = room c.args.octant c.args.lo c.args.hi c.requires.from c.requires.to c.requires.begun c.requires.ordered
-    c.requires.ended in
-    let fe = r.edge in
-    let fa = r.low in
-    let fb = r.high in
-    let v = simp to_z-of_z at c.octant_in_turn.ensures.value in
-    let p = simp to_z-of_z at c.part_of_turn.ensures.near in
-    part_small c.args.octant c.args.lo c.args.hi _ _ (turned_part c.args.octant c.octant_in_turn.result _ _ _ _ v p)
-    c.requires.begun c.requires.ordered
-    c.requires.ended
+    part_small c.args.octant c.args.lo c.args.hi _ _ (of_turn c) c.requires.begun c.requires.ordered c.requires.ended
 
 pub returns-clause-crest : goal.returns-clause-crest
 returns-clause-crest c =
-    let fo = c.ranges.octant in
-    let fl = c.ranges.lo in
-    let fh = c.ranges.hi in
-    let ft : SFits w128 c.octant_in_turn.result = search rules in
-    let r = room c.args.octant c.args.lo c.args.hi c.requires.from c.requires.to c.requires.begun c.requires.ordered
-    c.requires.ended in
-    let fe = r.edge in
-    let fa = r.low in
-    let fb = r.high in
-    let v = simp to_z-of_z at c.octant_in_turn.ensures.value in
-    let p = simp to_z-of_z at c.part_of_turn.ensures.near in
-    part_crest c.args.octant c.args.lo c.args.hi _ _ (turned_part c.args.octant c.octant_in_turn.result _ _ _ _ v p)
-    c.requires.begun c.requires.ordered
-    c.requires.ended
+    part_crest c.args.octant c.args.lo c.args.hi _ _ (of_turn c) c.requires.begun c.requires.ordered c.requires.ended
