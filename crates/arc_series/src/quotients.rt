@@ -3,6 +3,9 @@ ghost use Rattle.std.specs.Prelude.{◌≤◌, ◌*◌, ◌^◌, pos};
 ghost use Rattle.book_model.specs.Fraction.{Fraction, ◌≈◌, whole, times};
 ghost use Rattle.arc_series.specs.Kernel.{IsNumber};
 
+/// One, in parts of 2⁻⁶⁴.
+const ONE_64: u128 = 1 << 64;
+
 // Rounded down only; the kernel takes a number that is known to one part.
 /// A number over a divisor, which is at most a half, in parts of 2⁻⁶⁴, rounded down.
 #[inline(always)]
@@ -14,5 +17,5 @@ pub(crate) fn quotient_64(number: u64, divisor: u128) -> u64
     ensures half { result ≤ 2 ^ 63 }
     ensures some { divisor ≤ number * 2 ^ 64 → 1 ≤ result }
 {
-    (u128::from(number) * 18_446_744_073_709_551_616 / divisor) as u64
+    (u128::from(number) * ONE_64 / divisor) as u64
 }
