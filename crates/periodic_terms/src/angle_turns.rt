@@ -14,7 +14,7 @@ ghost use Rattle.periodic_terms.specs.Widths.{AreClose, AreTurnsWithin, IsFactor
 use crate::mean::{MeanAngles, MeanFactor, MeanFactors, MeanTurn, MeanTurns};
 use crate::rows_by_time::low_64;
 use crate::term_rows::{ONE, UNIT};
-use encl_core::{Enclosure, Span};
+use encl_core::{Enclosure, Span, shr_floor};
 
 /// 2²⁵ degrees, in units of 2⁻⁵⁶.
 const FAR: i128 = 1 << 81;
@@ -40,24 +40,6 @@ const TURN_PARTS: u64 = 1 << 24;
 /// A turn, in 45 parts of 2⁻³⁷ degrees.
 const TURN: u64 = 1 << 40;
 
-/// Half a number, rounded down.
-#[inline(always)]
-fn half_of(number: i128) -> i128
-    ensures below { (result *ℤ pos 2) ≤ℤ number }
-    ensures close { number <ℤ (result *ℤ pos 2 +ℤ pos 2) }
-{
-    number >> 1
-}
-
-/// A number over 2¹⁹, rounded down.
-#[inline(always)]
-fn floor_19(number: i128) -> i128
-    ensures below { (result *ℤ pos (2 ^ 19)) ≤ℤ number }
-    ensures close { number <ℤ (result *ℤ pos (2 ^ 19) +ℤ pos (2 ^ 19)) }
-{
-    number >> 19
-}
-
 /// The middle of an interval of degrees, rounded down; `None` further than 2²⁵ degrees from 0.
 #[inline(always)]
 fn middle_of(span: Span) -> Option<i128>
@@ -74,7 +56,7 @@ fn middle_of(span: Span) -> Option<i128>
     if span.hi > FAR {
         return None;
     }
-    Some(half_of(span.lo + span.hi))
+    Some(shr_floor::<1>(span.lo + span.hi))
 }
 
 /// An angle in units of 2⁻³⁷ degrees and so many whole turns that it isn't negative.
@@ -119,7 +101,7 @@ fn turn_at(middle: i128) -> u64
     requires greatest { middle ≤ℤ pos (2 ^ 81) }
     ensures turn { IsTurnAt result middle }
 {
-    let wide = floor_19(middle);
+    let wide = shr_floor::<19>(middle);
     let rest = (middle - wide * PARTS) as u64;
     low_64(i128::from(wide_turn_at(wide as i64)) + i128::from(rest_of_turn(rest)))
 }

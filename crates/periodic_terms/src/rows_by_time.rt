@@ -9,6 +9,7 @@ ghost use Rattle.std.specs.Int.{int_wrap, w128};
 ghost use Rattle.periodic_terms.specs.Turning.{IsTurning, AreNear, turning_term_of, radius_of, turn_part, whole_turns};
 
 use crate::sines::sine_at_turn;
+use encl_core::shr_floor;
 
 /// A turn, in the 2⁶⁴ parts of binary angles.
 const TURN: i128 = 1 << 64;
@@ -20,15 +21,6 @@ pub struct TurningTerm {
     pub size: i32,
     pub phase: u64,
     pub rate: i128,
-}
-
-/// A number over 2⁶⁴, rounded down.
-#[inline(always)]
-fn floor_64(number: i128) -> i128
-    ensures below { (result *ℤ pos (2 ^ 64)) ≤ℤ number }
-    ensures close { number <ℤ (result *ℤ pos (2 ^ 64) +ℤ pos (2 ^ 64)) }
-{
-    number >> 64
 }
 
 /// The product of a rate and a number of days, in units of 2⁻¹²⁸ turns: it wraps at a turn as its number does.
@@ -46,7 +38,7 @@ pub(crate) fn low_64(number: i128) -> u64
     requires to { number ≤ℤ pos (2 ^ 120) }
     ensures value { pos result ≡ number -ℤ whole_turns number *ℤ pos (2 ^ 64) }
 {
-    (number - floor_64(number) * TURN) as u64
+    (number - shr_floor::<64>(number) * TURN) as u64
 }
 
 /// The angle of a row in the middle of the days, in units of 2⁻⁴⁸ days, in 2⁻⁶⁴ turns; whole turns are left out.
@@ -55,7 +47,7 @@ fn turn_at(phase: u64, rate: i128, mid: i128) -> u64
     ensures value { pos result ≡ (pos phase +ℤ turn_part rate mid) -ℤ whole_turns
         (pos phase +ℤ turn_part rate mid) *ℤ pos (2 ^ 64) }
 {
-    low_64(i128::from(phase) + floor_64(turned(rate, mid)))
+    low_64(i128::from(phase) + shr_floor::<64>(turned(rate, mid)))
 }
 
 /// A size times a sine.

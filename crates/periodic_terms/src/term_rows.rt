@@ -10,6 +10,7 @@ ghost use Rattle.periodic_terms.specs.Multiples.{AreKnown, IsSmallRow, IsTerm, a
 use crate::mean::{MeanFactors, MeanTurns};
 use crate::rows_by_time::low_64;
 use crate::sines::sine_at_turn;
+use encl_core::shr_floor;
 
 /// A quarter of a turn, in 2⁻⁶⁴ turns.
 const QUARTER: i128 = 1 << 62;
@@ -96,15 +97,6 @@ fn factor(power: u64, factors: MeanFactors) -> u64
     factors.second
 }
 
-/// A number over 2⁵⁶, rounded down.
-#[inline(always)]
-fn floor_56(number: i128) -> i128
-    ensures below { (result *ℤ pos (2 ^ 56)) ≤ℤ number }
-    ensures close { number <ℤ (result *ℤ pos (2 ^ 56) +ℤ pos (2 ^ 56)) }
-{
-    number >> 56
-}
-
 /// A factor times a sine, both in units of 2⁻⁵⁶.
 #[inline(always)]
 fn factored(factor: u64, sine: i64) -> i128
@@ -129,7 +121,7 @@ fn scaled(factor: u64, sine: i64) -> i64
     ensures low { neg_ℤ (pos (5 * 2 ^ 54)) ≤ℤ result }
     ensures high { result ≤ℤ pos (5 * 2 ^ 54) }
 {
-    floor_56(factored(factor, sine)) as i64
+    shr_floor::<56>(factored(factor, sine)) as i64
 }
 
 /// A size times that.

@@ -5,16 +5,7 @@ ghost use Rattle.book_model.specs.programs.Leading.{units_of_56};
 ghost use Rattle.periodic_terms.specs.Multiples.{in_93};
 
 use crate::whole::WholeSum;
-use encl_core::Span;
-
-/// A number over 2³⁷, rounded down.
-#[inline(always)]
-fn floor_37(number: i128) -> i128
-    ensures below { (result *ℤ pos (2 ^ 37)) ≤ℤ number }
-    ensures close { number <ℤ (result *ℤ pos (2 ^ 37) +ℤ pos (2 ^ 37)) }
-{
-    number >> 37
-}
+use encl_core::{Span, shr_floor};
 
 /// How many parts of a day the sizes of a new moon's terms count.
 const PARTS: i128 = 100_000;
@@ -37,8 +28,8 @@ pub(crate) fn span_of(sum: WholeSum) -> Span
     ensures high { (result.hi *ℤ pos (2 ^ 37)) ≤ℤ (sum.hi +ℤ pos (2 ^ 37)) }
 {
     Span {
-        lo: floor_37(sum.lo),
-        hi: floor_37(sum.hi) + 1,
+        lo: shr_floor::<37>(sum.lo),
+        hi: shr_floor::<37>(sum.hi) + 1,
     }
 }
 
@@ -52,7 +43,7 @@ pub(crate) fn span_of_parts(sum: WholeSum) -> Span
     ensures high { (result.hi *ℤ pos (100000 * 2 ^ 37)) ≤ℤ (sum.hi +ℤ pos (100001 * 2 ^ 37)) }
 {
     Span {
-        lo: floor_of_parts(floor_37(sum.lo)),
-        hi: floor_of_parts(floor_37(sum.hi)) + 1,
+        lo: floor_of_parts(shr_floor::<37>(sum.lo)),
+        hi: floor_of_parts(shr_floor::<37>(sum.hi)) + 1,
     }
 }

@@ -8,12 +8,13 @@ use Rattle.periodic_terms.proofs.angle_turns.turn_at.Goals as goal
 pub returns : goal.returns
 returns c =
     let fm = c.ranges.middle in
-    let fw : SFits w128 c.floor_19-wide.result = search rules in
-    let l = simp to_z-of_z at c.floor_19-wide.ensures.below in
-    let u = simp to_z-of_z at c.floor_19-wide.ensures.close in
-    let f64 : SFits w64 c.floor_19-wide.result = omega (arith, ints, c.requires, l, u) in
-    let fp : SFits w128 (c.floor_19-wide.result *ℤ pos (2 ^ 19)) = omega (arith, ints, c.requires, l, u) in
-    let fd : SFits w128 (c.args.middle -ℤ c.floor_19-wide.result *ℤ pos (2 ^ 19)) =
+    let fw : SFits w128 c.shr_floor-wide.result = search rules in
+    let i = simp to_z-of_z at c.shr_floor-wide.ensures.floor in
+    let l = i.not_above in
+    let u = i.close in
+    let f64 : SFits w64 c.shr_floor-wide.result = omega (arith, ints, c.requires, l, u) in
+    let fp : SFits w128 (c.shr_floor-wide.result *ℤ pos (2 ^ 19)) = omega (arith, ints, c.requires, l, u) in
+    let fd : SFits w128 (c.args.middle -ℤ c.shr_floor-wide.result *ℤ pos (2 ^ 19)) =
     omega (arith, ints, c.requires, l, u) in
     let fa : SFits w128 c.from.result = search rules in
     let fb : SFits w128 c.from-2.result = search rules in
@@ -27,8 +28,8 @@ returns c =
     let h = simp to_z-of_z at c.low_64.ensures.value in
     record {
       turn = turn_together c.wide_turn_at.result c.rest_of_turn.result c.low_64.result c.args.middle
-          c.floor_19-wide.result
-          (c.args.middle -ℤ c.floor_19-wide.result *ℤ pos (2 ^ 19)) t (omega (arith, ints))
+          c.shr_floor-wide.result
+          (c.args.middle -ℤ c.shr_floor-wide.result *ℤ pos (2 ^ 19)) t (omega (arith, ints))
           (omega (arith, ints, p, l, u)) (omega (arith, ints, q, l, u))
           (whole_turns (c.from.result +ℤ c.from-2.result)) (added c.low_64.result c.from.result c.from-2.result
           c.wide_turn_at.result c.rest_of_turn.result (whole_turns (c.from.result +ℤ c.from-2.result)) a b h);
