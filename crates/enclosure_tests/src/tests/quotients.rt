@@ -1,5 +1,5 @@
-//! That a quotient of any size is the same, whichever way it takes.
-use int_division::{ceil_div, floor_div};
+//! That a quotient of any size is the same, whichever way it takes, and one by a power of two too.
+use int_division::{ceil_div, floor_div, shr_floor};
 
 /// Numbers, divisors, and the quotients rounded down and up: on both sides of 64 bits, and of wide numbers.
 #[rattlefmt::skip]
@@ -38,5 +38,29 @@ fn rounded(n: i128, d: u64) -> (i128, i128) {
 fn quotients_are_rounded_both_ways(rt: HostRuntime) {
     for (n, d, floor, ceiling) in QUOTIENTS {
         assert_eq!(rt; rounded(n, d), (floor, ceiling), "{n} / {d}");
+    }
+}
+
+/// Numbers, and what each is over 1, over 2 and over 2¹²⁶, rounded down.
+#[rattlefmt::skip]
+const SHIFTED: [(i128, i128, i128, i128); 7] = [
+    (0, 0, 0, 0),
+    (3, 3, 1, 0),
+    (-1, -1, -1, -1),
+    (-2, -2, -1, -1),
+    (-3, -3, -2, -1),
+    (i128::MAX, i128::MAX, 85_070_591_730_234_615_865_843_651_857_942_052_863, 1),
+    (i128::MIN, i128::MIN, -85_070_591_730_234_615_865_843_651_857_942_052_864, -2),
+];
+
+/// A number over 1, over 2 and over 2¹²⁶.
+fn shifted(n: i128) -> (i128, i128, i128) {
+    (shr_floor::<0>(n), shr_floor::<1>(n), shr_floor::<126>(n))
+}
+
+#[test]
+fn numbers_over_a_power_of_two_are_rounded_down(rt: HostRuntime) {
+    for (n, whole, half, top) in SHIFTED {
+        assert_eq!(rt; shifted(n), (whole, half, top), "{n}");
     }
 }
