@@ -4,7 +4,7 @@ ghost use Rattle.french_astro.specs.Dates.{fields_of_date};
 
 use crate::date::{FrenchDate, from_fixed, to_fixed};
 use book_model::Fields;
-use oracle_core::{CalendarDate, Oracle, Stop};
+use oracle_core::{CalendarDate, Oracle, Stop, three_fields, year_month_day};
 
 impl CalendarDate for FrenchDate {
     ghost calendar = { French };
@@ -12,20 +12,13 @@ impl CalendarDate for FrenchDate {
     ghost fields_of = { fields_of_date };
 
     fn fields(self) -> Fields {
-        Fields {
-            count: 3,
-            values: [self.year, i32::from(self.month), i32::from(self.day), 0, 0],
-        }
+        three_fields(self.year, self.month, self.day)
     }
 
     #[tactic(auto, unfolding(book_model::specs::calendars::Dates::may_have, book_model::specs::calendars::Dates::has_some_year, book_model::specs::calendars::Dates::year_number))]
     fn day_by<O: Oracle>(oracle: &mut O, fields: &Fields) -> Result<i64, Stop> {
-        let date = FrenchDate {
-            year: fields.field(0) as i32,
-            month: fields.field(1) as u8,
-            day: fields.field(2) as u8,
-        };
-        to_fixed(oracle, date)
+        let (year, month, day) = year_month_day(fields);
+        to_fixed(oracle, FrenchDate { year, month, day })
     }
 
     fn of_day<O: Oracle>(oracle: &mut O, day: i64) -> Result<Self, Stop> {

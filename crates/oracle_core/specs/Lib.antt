@@ -6,3 +6,4 @@ pub mod Inquiring
 pub mod Tables
 pub mod Oracles
 pub mod Kept
+pub mod ThreeFields
