@@ -1,4 +1,7 @@
--- Counts of months and their days: the quotients that they are, and how large they get.
+-- Counts of months and their days: the quotients that they are, and how large they get. Each count unfolds, by
+-- computing, to one quotient of whole numbers rounded down; what such a quotient is bounds it then, by linear
+-- arithmetic from the bounds of what is divided. That a rounding by halves is one by quarters compares two such
+-- quotients in the same way.
 use Rattle.std.specs.Prelude.{◌≡◌, ℤ, pos, negsuc, ◌+ℤ◌, ◌*ℤ◌, ◌≤ℤ◌, refl}
 use Rattle.std.proofs.Common.{arith}
 use Rattle.std.proofs.lemmas.Int.{ints}

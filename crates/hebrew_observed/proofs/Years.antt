@@ -1,4 +1,5 @@
--- The Gregorian years of the days whose dates the calendar tells.
+-- The Gregorian years of the days whose dates the calendar tells. Years rise with days, so it is enough to compute
+-- those of the first and of the last of these days; the year of any between lies between them.
 use Rattle.std.specs.Prelude.{◌≡◌, ℤ, pos, ◌≤ℤ◌, refl}
 use Rattle.std.proofs.Common.{arith}
 use Rattle.std.proofs.lemmas.Int.{ints}

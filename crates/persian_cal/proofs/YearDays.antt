@@ -1,4 +1,6 @@
--- Months and days of a year: how large they are.
+-- Months and days of a year: how large they are. A month and the days before it are whole quotients of the day's number
+-- by 31 or 30: each is bounded by what a quotient rounded down is, in linear arithmetic, for the months of 31 days and
+-- for the others by themselves.
 use Rattle.std.specs.Prelude.{◌≡◌, Bool, true, false, if◌then◌else◌, ℤ, pos, negsuc, ◌-ℤ◌, ◌≤ℤ◌, int_le, refl}
 use Rattle.std.proofs.Common.{arith}
 use Rattle.std.proofs.lemmas.Int.{ints}
