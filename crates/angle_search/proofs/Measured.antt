@@ -1,4 +1,7 @@
--- How wide the bounds of a bisection are, and how close its undecided tests.
+-- How wide the bounds of a bisection are, and how close its undecided tests. The middle of two moments is at most two
+-- units wider than the wider of them, by a bound that is computed once (`middle_reach`); over 64 iterations that is
+-- 2^15 in 2^-64, which the caller adds once. The difference of an angle and the one that is sought has the sum of both
+-- widths, whatever they are: so it goes by the bound of a difference and not by one computed for given widths.
 use Rattle.std.specs.Prelude.{◌≡◌, ℕ, ◌+◌, ◌^◌, ◌≤◌, true, pos, neg_ℤ, refl, if◌then◌else◌, ◌==◌, Result, Ok, Err}
 use Rattle.std.proofs.Common.{arith}
 use Rattle.std.proofs.lemmas.Int.{ints}

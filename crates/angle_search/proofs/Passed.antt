@@ -1,4 +1,6 @@
--- Tries that are decided make the tests of their formula.
+-- Tries that are decided make the tests of their formula. A try answers a Result, of which something is said only where
+-- it is `Ok`: each lemma goes by its cases, so that what a call says where it answers joins with what the next call
+-- says of that answer.
 use Rattle.std.specs.Prelude.{ℕ, Bool, Result, Ok, Err, IfOk}
 use Rattle.book_model.specs.Interval.{Interval}
 use Rattle.book_model.specs.declared.fail.Fail.{Fail}

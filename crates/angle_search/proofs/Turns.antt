@@ -1,4 +1,6 @@
--- Iterations of a bisection, one after another.
+-- Iterations of a bisection, one after another. The definition is a recursion on the iterations that are left, and the
+-- code tests the bounds first: `after_test` is what follows that test, with the test's answer as an argument, so that
+-- each case is one unfolding. The ruleset `turning` has one lemma a case.
 use Rattle.std.specs.Prelude.{◌≡◌, ℕ, zero, suc, ◌-◌, ◌≤◌, Bool, true, false, if◌then◌else◌, refl}
 use Rattle.std.proofs.Common.{arith}
 use Rattle.book_model.specs.declared.site.Site.TheVariants.{BisectEnd}

@@ -13,7 +13,7 @@ use book_model::tables::{HALF, HUNDRED_THOUSANDTH};
 use book_model::{Fail, Site};
 use encl_core::{Enclosure, Trail, less_step, wrap_step};
 
-/// How many iterations a bisection makes at most.
+/// How many iterations a bisection makes at most: the definition's number. Days ten apart are near after 20.
 const ITERATIONS: u32 = 64;
 
 /// Half a turn of the circle, in degrees.

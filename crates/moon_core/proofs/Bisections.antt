@@ -1,4 +1,6 @@
--- Bisection: how many tests it makes, and that its answer lies where its bounds do.
+-- Bisection: how many tests it makes, and that its answer lies where its bounds do. The tests are those of an iteration
+-- times the iterations, by induction, as `AtMost` along the definition. The answer lies between the bounds since the
+-- middle of two numbers from one to another does, whatever the tests say; of a run that is void nothing is owed.
 use Rattle.std.specs.Prelude.{◌≡◌, ℕ, zero, suc, ◌+◌, ◌*◌, Bool, true, false, if◌then◌else◌, ℤ, ◌+ℤ◌, ◌≤ℤ◌}
 use Rattle.std.proofs.Common.{arith}
 use Rattle.book_model.specs.Fraction.{whole}

@@ -1,4 +1,6 @@
--- A quartic is the sum of its constant, its linear term and its higher terms.
+-- A quartic is the sum of its constant, its linear term and its higher terms. The definition adds its terms from the
+-- constant on, and a linear model keeps the higher ones together: sums of intervals may be regrouped, each way within
+-- the other, by the cases of the intervals.
 use Rattle.book_model.specs.Interval.{Interval, everything, between, ◌⊆◌, sum}
 use Rattle.book_model.proofs.Intervals.{within_trans}
 use Rattle.book_model.proofs.Same.{plus_assoc, le_of_same, ge_of_same}

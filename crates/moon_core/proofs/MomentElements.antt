@@ -1,4 +1,7 @@
--- The elements of a moment: the time that they are of, and its test made again.
+-- The elements of a moment: the time that they are of, and its test made again. The formulas of longitude and latitude
+-- each test the year of the moment in the definition, and the code tests it once: a run of that test, made again at a
+-- later count, reports the same answer (`centuries_again`), which counts one more test. What leads by the centuries of
+-- the elements' days leads by those of their moment.
 use Rattle.std.proofs.Common.{ℕ, ℤ, refl, sym, subst, Option, Some, None, Result, Ok}
 use Rattle.book_model.specs.Interval.{Interval}
 use Rattle.book_model.specs.declared.fail.Fail.{Fail}

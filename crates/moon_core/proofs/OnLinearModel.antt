@@ -1,4 +1,6 @@
--- The greatest terms and the others are all.
+-- The greatest terms and the others are all. The first four rows of the table joined with the rest are the table, by
+-- computing, and sums of terms join with them: so an enclosure of the sum of both parts holds the sum of the
+-- definition.
 use Rattle.std.specs.Prelude.{◌≡◌, length, slice_range, ◌++◌, refl}
 use Rattle.book_model.specs.Interval.{Interval}
 use Rattle.book_model.specs.declared.moon_tables.TheConstants.{MOON_TERMS}

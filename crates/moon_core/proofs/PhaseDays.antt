@@ -1,4 +1,6 @@
--- When the moon was last at a phase: how many tests that makes, and from where to where it lies.
+-- When the moon was last at a phase: how many tests that makes, and from where to where it lies. The tests are added
+-- along the definition. The moment lies between its bounds, which are two days about a moment that the mean phase leads
+-- back to, and that lies less than a mean month before a moment of the table.
 use Rattle.std.specs.Prelude.{◌≡◌, ℕ, ℤ, pos, ◌≤◌, Result, Ok, Err, IfOk, ◌+ℤ◌, ◌-ℤ◌}
 use Rattle.std.proofs.Common.{arith}
 use Rattle.std.proofs.lemmas.Int.{ints}

@@ -1,4 +1,7 @@
 -- The moon's formulas: how many tests they make, and from where to where the numbers of new moons lie that they find.
+-- Tests are added along the definitions (`AtMost`). A number is the floor of months since the first new moon less those
+-- of a phase from 0 to 360 degrees, plus a half: so it lies where the months of a moment of the table do, which
+-- `FirstMoon` and the mean month bound.
 use Rattle.std.specs.Prelude.{◌≡◌, ℕ, zero, suc, ◌+◌, ◌*◌, ◌-◌, ℤ, pos, negsuc, ◌+ℤ◌, ◌-ℤ◌, ◌*ℤ◌, ◌≤ℤ◌, Some, Bool}
 use Rattle.std.specs.Prelude.{true, false, if◌then◌else◌, Result, Ok, Err, IfOk}
 use Rattle.std.proofs.Common.{arith, sym, ◌∙◌}

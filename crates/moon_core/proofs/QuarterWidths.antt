@@ -1,4 +1,7 @@
--- How wide the moments are at which the moon was last at a phase, at the scale 2^-56.
+-- How wide the moments are at which the moon was last at a phase, at the scale 2^-56. The degrees that it is past the
+-- phase are as wide as the phase; the bound of the moment to which the mean phase leads back is computed of them
+-- (`back_reach`), and so are the two bounds of the bisection, two days before and after. A bisection adds 2^15 to the
+-- wider of these.
 use Rattle.std.specs.Prelude.{◌≡◌, ℕ, ◌+◌, ◌-◌, ◌*◌, ◌^◌, true, ℤ, pos, neg_ℤ, refl, if◌then◌else◌, ◌==◌, Result, Ok}
 use Rattle.std.specs.Prelude.{Err}
 use Rattle.std.proofs.Common.{arith}

@@ -1,4 +1,5 @@
--- A walk over the numbers of new moons, number by number.
+-- A walk over the numbers of new moons, number by number. The definition is a recursion on how many numbers are left:
+-- one lemma for none, and one for one more, each a single unfolding. They are the ruleset `walks`.
 use Rattle.std.specs.Prelude.{◌≡◌, ℕ, zero, suc, ◌-◌, ◌≤◌, ℤ, pos, ◌+ℤ◌, if◌then◌else◌, refl}
 use Rattle.std.proofs.Common.{arith}
 use Rattle.book_model.specs.declared.site.Site.TheVariants.{MoonWalk}

@@ -1,4 +1,6 @@
--- A new moon makes one test, of the year, so what it was once it is again; and how wide it is when it is taken again.
+-- A new moon makes one test, of the year, so what it was once it is again; and how wide it is when it is taken again. A
+-- run of the formula from any count of tests reports the same answer with the count one higher, since what follows the
+-- test of the year makes none. Its span, cached, is an enclosure again that is two units wider at most.
 use Rattle.std.proofs.Common.{◌≡◌, ℕ, ◌+◌, ◌^◌, ℤ, pos, negsuc, ◌≤ℤ◌, ◌-ℤ◌, Option, Some, None, Ok, IfSome, arith}
 use Rattle.std.specs.Prelude.{nat_lt, true, refl, pos, ◌+ℤ◌}
 use Rattle.std.proofs.lemmas.Int.{ints}

@@ -1,5 +1,7 @@
 -- The polynomials of a new moon with their first two terms as one fraction have the same values; and the powers of a
--- time.
+-- time. At an exact time each term of the definition is one fraction, and fractions of one value give intervals of
+-- which each holds the other. So the first two terms become one, and the scaled fourth power a scaled cube times the
+-- time; each polynomial is then a sum in the code's order.
 use Rattle.std.proofs.Common.{◌≡◌, ℕ, refl, arith, ℤ, pos, negsuc, ◌+ℤ◌, ◌*ℤ◌, List, [], ◌∷◌, length, slice_index_or}
 use Rattle.std.proofs.lemmas.Int.{ints}
 use Rattle.book_model.specs.Fraction.{Fraction, ◌≈◌, whole, plus, times, power}

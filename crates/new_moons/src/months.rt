@@ -1,6 +1,9 @@
 //! The polynomials of a new moon by its number. What a polynomial gains a month is a whole number of parts, so that its first two terms
 //! are one fraction, which is rounded once; the others are small, and take powers of the centuries, which all polynomials share.
 //! Horner's rule would multiply at each step what was rounded before.
+//!
+//! A number that is asked is at most 40,000,000 from 0, and counted from the new moon of January 2000, 24,724 months later, at most
+//! 40,050,000: its parts are below 2⁶⁴ then, and are taken in 128 bits.
 ghost use Rattle.std.specs.Prelude.{◌≡◌, ◌≤◌, ◌<◌, ◌-◌, ◌*◌, ◌^◌, ◌+ℤ◌, ◌*ℤ◌};
 ghost use Rattle.book_model.specs.declared.new_moon_tables.TheConstants.{MEAN_NEW_MOON as MEAN, NEW_MOON_ANOMALY as MOON, NEW_MOON_LATITUDE_ARGUMENT as LATITUDE, NEW_MOON_NODE as NODE, NEW_MOON_SUN_ANOMALY as SUN, RECENT_DAYS};
 ghost use Rattle.book_model.specs.numbers.Depth.{DEPTH};
@@ -141,12 +144,14 @@ fn quartic_at<E: Enclosure>(
     ensures holds { (w : World) (f s k c : Expression) → Within E.shown w f first
         → Within E.shown w s powers.square → Within E.shown w k powers.cube
         → Within E.shown w c powers.centuries
-        → Within E.shown w (quartic_sum (fraction_of square) (fraction_of cube) (fraction_of fourth) f s k c) result }
+        → Within E.shown w
+        (quartic_sum (fraction_of square) (fraction_of cube) (fraction_of fourth) f s k c) result }
     ensures narrow { (r : Reach) (f s k c : Expression) → Narrow E.shown (limits_of E.BITS) r f first
         → Narrow E.shown (limits_of E.BITS) r s powers.square
         → Narrow E.shown (limits_of E.BITS) r k powers.cube
         → Narrow E.shown (limits_of E.BITS) r c powers.centuries
-        → Narrow E.shown (limits_of E.BITS) r (quartic_sum (fraction_of square) (fraction_of cube) (fraction_of fourth) f s k c) result }
+        → Narrow E.shown (limits_of E.BITS) r
+        (quartic_sum (fraction_of square) (fraction_of cube) (fraction_of fourth) f s k c) result }
 {
     cubic_at(first, square, cube, powers).add(powers.cube.mul_frac(fourth).mul(powers.centuries))
 }

@@ -1,4 +1,8 @@
--- The sine of what lies near an angle, from the sines at that angle.
+-- The sine of what lies near an angle, from the sines at that angle. Angles are counted in octants and degrees into
+-- them, and near is less than an octant: so the other angle lies in the same octant, in the next or in the one before,
+-- and in the latter two cases the way goes over the angle where the two meet (`Edges`), which costs four parts of
+-- 2^-56. Within an octant `Spreads` says how far the sines move. The model takes the sine of an interval octant by
+-- octant, in each by its two ends: so what holds of the sines at those angles (`at_near`) holds of the interval.
 use Rattle.std.proofs.Common.{◌≡◌, ℕ, ◌+◌, ◌-◌, ◌/◌, ◌≤◌, refl, arith, unsigned_abs, ℤ, pos, ◌+ℤ◌, ◌-ℤ◌, ◌*ℤ◌, ◌≤ℤ◌}
 use Rattle.std.proofs.Common.{◌<ℤ◌}
 use Rattle.std.specs.Int.{int_max, int_min}

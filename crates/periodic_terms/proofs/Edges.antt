@@ -1,4 +1,8 @@
--- Where two octants meet, the sines at the end of one are those at the beginning of the other.
+-- Where two octants meet, the sines at the end of one are those at the beginning of the other. Both are values of the
+-- kernel of `trig_series` at 0 or at 45 degrees, of which the model's sine of one and cosine of the other lie in both
+-- spans: so each span holds the other's numbers but for its width, and an octant may be followed or preceded by its
+-- neighbour at the cost of four parts of 2^-56. After the eighth octant comes the first, and four octants later the
+-- signs are turned.
 use Rattle.std.proofs.Common.{◌≡◌, ℕ, zero, suc, ◌-◌, ◌≤◌, refl, arith, neg_ℤ, ℤ, pos, negsuc, ◌+ℤ◌, ◌-ℤ◌, ◌*ℤ◌, ◌≤ℤ◌}
 use Rattle.std.proofs.Common.{◌<ℤ◌, ◌⊎◌, inl, inr}
 use Rattle.std.proofs.lemmas.Int.{ints}

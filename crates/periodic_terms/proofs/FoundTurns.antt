@@ -1,4 +1,7 @@
--- What is found of mean angles and of their factor.
+-- What is found of mean angles and of their factor, as the code returns it: an Option. Each lemma goes by its two
+-- cases: of `None` nothing is owed, and of `Some` what holds of every interval within a span's endpoints holds of the
+-- value of an expression that the enclosure of the span holds. A half width may be replaced by a greater one, by which
+-- the factor and its square share one.
 use Rattle.std.specs.Prelude.{IfSome, Some, None, Option}
 use Rattle.std.proofs.Common.{◌≡◌, ℕ, ◌≤◌, arith, ℤ, pos, ◌+ℤ◌, ◌-ℤ◌, ◌≤ℤ◌}
 use Rattle.std.proofs.lemmas.Int.{ints}

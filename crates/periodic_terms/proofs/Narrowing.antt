@@ -1,4 +1,7 @@
--- How wide spans and sums are, as measures of enclosures: from an enclosure to the endpoints of its span, and back.
+-- How wide spans and sums are, as measures of enclosures: from an enclosure to the endpoints of its span, and back. A
+-- measure is a bound of range and width in 2^-64; a span's endpoints are whole numbers of 2^-56, in which both become
+-- inequalities that `omega` decides. Into an enclosure goes the bound of a span, which is two units wider. The reach of
+-- the factor's square is computed of the factor's bound.
 use Rattle.std.proofs.Common.{◌≡◌, ℕ, ◌+◌, ◌*◌, ◌^◌, ◌≤◌, refl, arith, true, ℤ, pos, ◌+ℤ◌, ◌-ℤ◌, ◌*ℤ◌, ◌≤ℤ◌, ◌<ℤ◌}
 use Rattle.std.specs.Prelude.{nat_lt}
 use Rattle.std.proofs.lemmas.Int.{ints}

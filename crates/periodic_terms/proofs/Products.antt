@@ -1,4 +1,6 @@
--- Products, as the code has them.
+-- Products, as the code has them: how large they are at most, so that no product of 128 bits overflows, by `bounded_z`
+-- from the bounds of both factors; and equations that lead from the code's order of factors and summands to the
+-- definition's. They stand apart from the rows' lemmas, so that these speak of numbers that fit.
 use Rattle.std.proofs.Common.{[], ◌∷◌, refl, ap, ◌∙◌, ◌≡◌, ℕ, ◌*◌, ◌^◌, ◌≤◌, ◌<◌, arith, unsigned_abs, neg_ℤ, ℤ, pos}
 use Rattle.std.proofs.Common.{◌+ℤ◌, ◌-ℤ◌, ◌*ℤ◌, ◌≤ℤ◌, SFits}
 use Rattle.std.specs.Int.{w128}

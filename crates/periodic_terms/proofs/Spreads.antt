@@ -1,4 +1,8 @@
--- From the sines at one angle of an octant to those at another: they move by at most a 57th of the degrees.
+-- From the sines at one angle of an octant to those at another: they move by at most a 57th of the degrees. At one
+-- depth of the series this is a law of the series in radians (`sine_slow` and its like of trig_series); here it is
+-- brought to degrees in parts of 2^-56, both ways, and to the sine into each of the eight octants, which is a sine or a
+-- cosine of the degrees or of what is left of the octant. The last part leads from there to the model's sine of
+-- degrees.
 use Rattle.std.proofs.Common.{ℕ, zero, suc, ◌-◌, ◌≤◌, refl, arith, neg_ℤ, ℤ, pos, negsuc, ◌+ℤ◌, ◌-ℤ◌, ◌*ℤ◌, ◌≤ℤ◌, []}
 use Rattle.std.proofs.Common.{◌∷◌}
 use Rattle.std.proofs.lemmas.Int.{ints, by_lt_z}

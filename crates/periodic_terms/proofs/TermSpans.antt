@@ -1,4 +1,7 @@
--- A sum of rows as a span: how far from 0 it may be at most, to which it is cut, and its endpoints in parts of 2^-56.
+-- A sum of rows as a span: how far from 0 it may be at most, to which it is cut, and its endpoints in parts of 2^-56. A
+-- quotient that is rounded down lies below, and one more above. A cut goes by `clamps`, the arithmetic of `min` and
+-- `max`, and loses nothing, since the sum lies between plus and minus its sizes anyway. How wide a sum is comes from
+-- the radius, whose products are bounded one by one and then added, so that no goal has two products of unknowns.
 use Rattle.std.proofs.Common.{mul-le-mul, refl, ◌≡◌, ℕ, ◌+◌, ◌*◌, ◌/◌, ◌-◌, ◌^◌, ◌≤◌, arith, neg_ℤ, ℤ, pos, ◌+ℤ◌, ◌-ℤ◌}
 use Rattle.std.proofs.Common.{◌*ℤ◌, ◌≤ℤ◌, ◌<ℤ◌, [], ◌∷◌}
 use Rattle.std.specs.Int.{int_max, int_min}

@@ -1,4 +1,9 @@
 //! Mean angles as turns.
+//!
+//! A mean angle is known by a middle in 2⁻⁵⁶ degrees and by how far its endpoints are from that. The middle becomes a turn in two steps,
+//! so that no product has more than 64 bits: its part in 2⁻³⁷ degrees, of which 45 · 2⁴⁰ are a turn, and the rest times 32 / 45, since
+//! 2⁻⁵⁶ degrees are 32 / 45 of 2⁻⁶⁴ turns. Each step rounds down by less than 2⁻⁶⁴ turns, which are 45 times 2⁻⁶¹ degrees: hence the 90
+//! in the half width. A half width over 2 degrees isn't taken: up to that the radius of a sum has 128 bits (`term_sums`).
 ghost use Rattle.std.specs.Prelude.{◌≡◌, ◌≤◌, ◌<◌, ◌+◌, ◌*◌, ◌-◌, ◌^◌, ℕ, pos, neg_ℤ, ◌≤ℤ◌, ◌<ℤ◌, ◌+ℤ◌, ◌-ℤ◌, ◌*ℤ◌, IfSome, IsSome, IsSomeAnd, IsTrue, true};
 ghost use Rattle.book_model.specs.Interval.{Interval, between, ◌⊆◌};
 ghost use Rattle.book_model.specs.numbers.Expressions.{Expression, World, value, power};
@@ -16,13 +21,14 @@ use crate::rows_by_time::low_64;
 use crate::term_rows::{ONE, UNIT};
 use encl_core::{Enclosure, Span, shr_floor};
 
-/// 2²⁵ degrees, in units of 2⁻⁵⁶.
+/// 2²⁵ degrees, in units of 2⁻⁵⁶: the fastest mean angle, of 483,202 degrees a century, goes 12.1 million from the year 2000 back to
+/// where the table of ΔT begins, 25 centuries before, and 2²⁵ are 33.5 million.
 const FAR: i128 = 1 << 81;
 
-/// 2¹⁷ turns, in units of 2⁻³⁷ degrees.
+/// 2¹⁷ turns, in units of 2⁻³⁷ degrees: more than 2²⁵ degrees.
 const WHOLE_TURNS: i128 = 45 << 57;
 
-/// 2 degrees, in units of 2⁻⁵⁶, and three of these less.
+/// 2 degrees, in units of 2⁻⁵⁶, and three of these less, for the roundings of the turn: 90 parts of 2⁻⁶¹ are less than three of 2⁻⁵⁶.
 const GREATEST_HALF: i128 = (1 << 57) - 3;
 
 /// How many parts of 2⁻⁵⁶ are one of 2⁻³⁷.

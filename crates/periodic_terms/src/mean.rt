@@ -22,7 +22,8 @@ pub(crate) struct MeanTurn {
     ghost narrow: { half ≤ 2 ^ 62 },
 }
 
-/// The factor of the eccentricity and its square in 2⁻⁵⁶, how far each may be from that, and what neither is above, nor 1, in 2⁻³⁷.
+/// The factor of the eccentricity and its square in 2⁻⁵⁶, how far each may be from that, and what neither is above, nor 1, in 2⁻³⁷. In the
+/// years of which ΔT is known the factor is from 0.99 to 1.06, so that its square is below 5 / 4 too.
 #[derive(Clone, Copy)]
 pub(crate) struct MeanFactors {
     pub first: u64,

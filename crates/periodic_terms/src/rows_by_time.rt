@@ -1,4 +1,9 @@
 //! Rows of periodic terms as they are summed.
+//!
+//! A rate times the days wraps at a turn, and its high half is in 2⁻⁶⁴ turns, as a phase is: so an angle takes one product and one sum.
+//! What it is off, in 2⁻⁵⁶ degrees: over 2²⁰ days a rate's rounding makes 2⁻⁶⁰ turns, which are 22.5; the phase's and the high half's make
+//! 1.4 each, and that of the degrees into an octant 1. A size has 32 bits, so that it is below 2⁸⁷ times a sine, and the sum of 2³² rows
+//! below 2¹¹⁹.
 ghost use Rattle.std.specs.Prelude.{◌≡◌, ◌≤◌, ◌^◌, ◌-◌, ℕ, ℤ, pos, neg_ℤ, ◌≤ℤ◌, ◌<ℤ◌, ◌+ℤ◌, ◌-ℤ◌, ◌*ℤ◌};
 ghost use Rattle.book_model.specs.Interval.{between, ◌⊆◌};
 ghost use Rattle.book_model.specs.declared.polynomial.PeriodicTerm.{PeriodicTerm};

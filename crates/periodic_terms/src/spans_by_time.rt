@@ -1,4 +1,8 @@
-//! The sum of the rows of a table over an interval of days, as a span.
+//! The sum of the rows of a table over an interval of days, as a span: their sum at the middle of the days, and a radius about it, which is
+//! what the sum moves over the width of the days at most, and the roundings of all rows.
+//!
+//! Sizes may add up to 2⁴⁰, so that the sum of all roundings is below 2⁴⁵; a slope has 64 bits and a width 62, whose product over 2³² is
+//! below 2⁹⁶. So a radius is below 2¹⁰⁰, and with the sum at the middle, below 2¹¹⁹, 128 bits hold both endpoints.
 ghost use Rattle.std.specs.Prelude.{◌≡◌, ◌≤◌, ◌/◌, ◌*◌, ◌^◌, ℕ, ℤ, pos, neg_ℤ, ◌≤ℤ◌, ◌+ℤ◌, ◌-ℤ◌, ◌*ℤ◌, length, List, IfSome, IsSome};
 ghost use Rattle.book_model.specs.Interval.{Interval, between, ◌⊆◌};
 ghost use Rattle.book_model.specs.declared.polynomial.PeriodicTerm.{PeriodicTerm};
@@ -14,7 +18,8 @@ use crate::sums_by_time::sum_at;
 use encl_core::Span;
 use encl_core::parts::ONE;
 
-/// 2²⁰ days, in units of 2⁻⁵⁶: all that the table of ΔT has, and the days of every fact, lie within them.
+/// 2²⁰ days, in units of 2⁻⁵⁶: all that the table of ΔT has, and the days of every fact, lie within them. The table begins
+/// 912,741 days before the year 2000, and 2²⁰ are 1,048,576; the rates' roundings are added up to there.
 const FAR: i128 = 1 << 76;
 
 /// 64 days, in units of 2⁻⁵⁶. A width of 64 bits holds them, and beyond them a sum of the sky's periodic terms is as wide as it may be.

@@ -1,4 +1,9 @@
 //! Rows whose angles are sums of multiples of mean angles.
+//!
+//! No row of the moon's tables takes its angles more than eight times together, so that a row's angle is less than 2⁶⁷ parts of 2⁻⁶⁴ turns
+//! for each angle and has 128 bits with ease. A sine in 2⁻⁵⁶ times a factor in 2⁻⁵⁶ is rounded down to 2⁻⁵⁶, one part of which is the
+//! `+ 1` beside the factor's width in the radius; times a size of at most 2²⁵ it is below 5 · 2⁷⁹, and in 2⁻⁹³ below 2¹¹⁹. The sum of 64
+//! such rows is below 2¹²⁵, and with its radius below 2¹²⁶, as 128 bits hold.
 ghost use Rattle.std.specs.Prelude.{◌≡◌, ◌≤◌, ◌*◌, ◌^◌, ℕ, ℤ, pos, neg_ℤ, ◌≤ℤ◌, ◌<ℤ◌, ◌+ℤ◌, ◌-ℤ◌, ◌*ℤ◌, unsigned_abs};
 ghost use Rattle.book_model.specs.Interval.{◌⊆◌};
 ghost use Rattle.book_model.specs.numbers.Depth.{DEPTH};

@@ -1,4 +1,7 @@
 //! A sum of rows as a span.
+//!
+//! A part of 2⁻⁵⁶ is 2³⁷ of 2⁻⁹³, so that a sum is rounded out by two parts at most: the lower endpoint is rounded down, and the upper one
+//! down and then up by one.
 ghost use Rattle.std.specs.Prelude.{◌*◌, ◌^◌, pos, neg_ℤ, ◌≤ℤ◌, ◌<ℤ◌, ◌+ℤ◌, ◌-ℤ◌, ◌*ℤ◌};
 ghost use Rattle.book_model.specs.Interval.{between, ◌⊆◌};
 ghost use Rattle.book_model.specs.programs.Leading.{units_of_56};

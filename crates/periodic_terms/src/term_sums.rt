@@ -1,4 +1,9 @@
-//! The sum of the rows of a table.
+//! The sum of the rows of a table, by one pass at the middle of the mean angles, and one radius for all.
+//!
+//! How large the numbers get: a half width is at most 2⁶² parts of 2⁻⁶¹ degrees, so that a sine is off by less than 2⁵² parts; times sizes
+//! of at most 2²⁸ that is 2⁸⁰ for each of the four angles, and 2⁸³ for all with the roundings; times a factor of at most 5 · 2³⁵ it is
+//! below 2¹²¹ parts of 2⁻⁹³. What the factors may be off adds less than 5 · 2¹¹⁹, and the rows themselves less than 2¹²⁵. A table has at
+//! most 64 rows; the moon's have 60.
 ghost use Rattle.std.specs.Prelude.{◌≡◌, ◌≤◌, ◌+◌, ◌*◌, ◌^◌, ℕ, ℤ, pos, neg_ℤ, ◌≤ℤ◌, ◌+ℤ◌, ◌-ℤ◌, ◌*ℤ◌, length, IsTrue, IsFalse};
 ghost use Rattle.std.specs.Int.{int_max, int_min};
 ghost use Rattle.book_model.specs.Interval.{between, ◌⊆◌};
@@ -24,7 +29,8 @@ pub(crate) struct RowSums {
     pub powered: u64,
 }
 
-/// A sine moves by a 57th of its angle in degrees at most; 2⁻⁵⁶ degrees are 32 times 2⁻⁶¹.
+/// By what a half width in 2⁻⁶¹ degrees is divided to bound what a sine moves, in 2⁻⁵⁶: a sine moves by a 57th of its angle in degrees at
+/// most, since 180 / π is above 57, and 2⁻⁵⁶ degrees are 32 times 2⁻⁶¹.
 const PART_OF_HALF: u64 = 57 * 32;
 
 /// How many parts of 2⁻⁵⁶ the sine of a row is off at most beside that: 3 are its own, 6 a 57th of what its angle is off by roundings

@@ -1,4 +1,6 @@
--- How wide the sine of the moon's altitude is at the scale 2^-56.
+-- How wide the sine of the moon's altitude is at the scale 2^-56. The bound of the definition over five free arguments,
+-- the latitude of the ground, sidereal time, obliquity, longitude and latitude, is computed once of their ranges and
+-- widths (`altitude_reach`), and `measured` leads from there to the enclosure.
 use Rattle.std.specs.Prelude.{◌≡◌, ℕ, ◌+◌, ◌*◌, ◌^◌, true, pos, neg_ℤ, refl, if◌then◌else◌, ◌==◌}
 use Rattle.std.proofs.Common.{arith}
 use Rattle.book_model.specs.Interval.{Interval}

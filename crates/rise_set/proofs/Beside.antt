@@ -1,4 +1,6 @@
--- The floor of a number to which a whole number is added.
+-- The floor of a number to which a whole number is added: it is the floor of the number, and the whole number more. So
+-- is the cell of an interval, and one that has none has none then, since both endpoints move alike. An undecided test
+-- keeps its endpoints moved by whole units of 2^-56, where they have room.
 use Rattle.std.specs.Prelude.{◌≡◌, ℕ, suc, ◌+◌, ◌*◌, ◌-◌, ◌^◌, ℤ, pos, negsuc, ◌+ℤ◌, ◌*ℤ◌, ◌≤ℤ◌, ◌<ℤ◌, Bool, true}
 use Rattle.std.specs.Prelude.{false, Some, None, Result, Ok, Err, IfOk, IfErr, FitsSigned, refl}
 use Rattle.std.proofs.Common.{arith, ◌∙◌}

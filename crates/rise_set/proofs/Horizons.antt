@@ -1,4 +1,6 @@
--- Dawn, dusk and sunset: how many tests they make, and from where to where their values lie.
+-- Dawn, dusk and sunset: how many tests they make, and from where to where their values lie. Tests are added along the
+-- definitions (`AtMost`), of twelve approximations at most eleven each. That a new year by sunsets makes few follows
+-- with the search by day of sun_core.
 use Rattle.std.specs.Prelude.{ℕ, zero, suc, ◌+◌, ◌*◌, Bool, true, false, if◌then◌else◌, ℤ}
 use Rattle.std.proofs.Common.{arith}
 use Rattle.book_model.specs.declared.horizon.Location.{Location}

@@ -1,4 +1,6 @@
--- A moment of local mean time lies in the table, or a day from it, where its universal time does.
+-- A moment of local mean time lies in the table, or a day from it, where its universal time does. The two differ by a
+-- longitude's part of a day, which is at most one, so that an endpoint's range moves by at most a day; the width stays
+-- what it is.
 use Rattle.std.specs.Prelude.{◌≡◌, ℕ, ◌^◌, ◌≤◌, ℤ, pos, negsuc, ◌+ℤ◌, ◌-ℤ◌, refl}
 use Rattle.std.proofs.Common.{arith, [], ◌∷◌}
 use Rattle.std.proofs.lemmas.Int.{ints}

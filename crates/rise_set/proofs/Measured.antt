@@ -1,4 +1,7 @@
--- How wide declinations, offsets and approximations of dawn and dusk are at the scale 2^-56.
+-- How wide declinations, offsets and approximations of dawn and dusk are at the scale 2^-56. The bound of each
+-- expression is computed once of ranges of its arguments (`.._reach`), and `measured` leads from there to the
+-- enclosure. Of places the latitude is from 0 to 36 degrees and the depression at most 4.6, of which the ranges of
+-- tangents, cosines and sines are computed.
 use Rattle.std.specs.Prelude.{◌≡◌, ℕ, ◌+◌, ◌-◌, ◌*◌, ◌/◌, ◌^◌, ◌≤◌, Bool, true, false, not, cond, ℤ, pos, neg_ℤ, ◌+ℤ◌}
 use Rattle.std.specs.Prelude.{◌*ℤ◌, ◌≤ℤ◌, nat_lt, unsigned_abs, max, Some, Result, Ok, Err, IfOk, IfErr, refl}
 use Rattle.std.specs.Prelude.{if◌then◌else◌, ◌==◌}

@@ -1,4 +1,6 @@
--- The places are narrow, and so are their depressions and sunsets.
+-- The places are narrow, and so are their depressions and sunsets. That each place with a horizon lies within the
+-- latitudes and heights for which widths are computed is a test over the rows of the table, by computing. The bound of
+-- a depression is computed of such a height, and of constants alone.
 use Rattle.std.specs.Prelude.{◌≡◌, ℕ, ◌+◌, ◌*◌, ◌/◌, ◌^◌, true, pos, Option, Some, None, IfSome, refl}
 use Rattle.std.specs.Option.{option_map_or}
 use Rattle.std.proofs.Common.{arith}

@@ -1,4 +1,5 @@
--- Approximations of dawn and dusk, one after another.
+-- Approximations of dawn and dusk, one after another. The definition is a recursion on how many are left: one lemma for
+-- none, and one for one more, each a single unfolding.
 use Rattle.std.specs.Prelude.{◌≡◌, ℕ, zero, suc, ◌-◌, ◌≤◌, if◌then◌else◌, refl}
 use Rattle.std.proofs.Common.{arith}
 use Rattle.book_model.specs.declared.horizon.Location.{Location}

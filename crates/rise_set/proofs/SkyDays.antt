@@ -1,4 +1,7 @@
 -- From where to where dawn and dusk lie, and sunrise and sunset of the Hindu calendars: within forty days of their day.
+-- The range of each step is that of its parts: the arc of an offset is at most a day, and so is what apparent time is
+-- ahead. So an approximation lies at most two days before the moment that it is made of and three after it, and by
+-- induction twelve lie at most 24 days before and 36 after.
 use Rattle.std.specs.Prelude.{◌≡◌, ℕ, zero, suc, ◌*◌, ◌^◌, ◌≤◌, Bool, true, false, if◌then◌else◌, ℤ, pos, negsuc, ◌+ℤ◌}
 use Rattle.std.specs.Prelude.{◌-ℤ◌, ◌*ℤ◌, ◌≤ℤ◌, Ok}
 use Rattle.std.proofs.Common.{arith}

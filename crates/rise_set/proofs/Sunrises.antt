@@ -1,4 +1,7 @@
--- How close the tests of rounded minutes are, and between which the minutes of a sunrise lie.
+-- How close the tests of rounded minutes are, and between which the minutes of a sunrise lie. A floor is taken of
+-- minutes since the day began, and the whole minutes of the day are added after: the test's endpoints, moved so, have
+-- room in 128 bits, since minutes lie within 2^58 (`Beside` says that the floor is the definition's). The minutes'
+-- bound is computed once of a settled moment.
 use Rattle.std.specs.Prelude.{◌≡◌, ℕ, ◌+◌, ◌-◌, ◌*◌, ◌^◌, true, ℤ, pos, neg_ℤ, ◌+ℤ◌, ◌-ℤ◌, ◌*ℤ◌, ◌≤ℤ◌, Some, Result, Ok}
 use Rattle.std.specs.Prelude.{Err, IfErr, FitsSigned, nat_lt, unsigned_abs, max, refl, if◌then◌else◌, ◌==◌}
 use Rattle.std.proofs.Common.{arith, [], ◌∷◌}

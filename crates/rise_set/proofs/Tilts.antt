@@ -1,4 +1,6 @@
--- The obliquity of the ecliptic at a moment: it is narrow, and only the test of the year is ever undecided.
+-- The obliquity of the ecliptic at a moment: it is narrow, and only the test of the year is ever undecided. It is a
+-- polynomial of the centuries, which makes no test: a program that is one answer never fails (`no_failure`), and a
+-- bound that is computed for centuries of the table is narrower than what callers ask.
 use Rattle.std.specs.Prelude.{ℕ, ◌+◌, ◌/◌, ◌^◌, ◌≤◌, Result, Ok, Err, IfErr}
 use Rattle.std.proofs.Common.{arith}
 use Rattle.std.proofs.lemmas.Int.{ints}

@@ -1,5 +1,6 @@
 -- The first tests of the search for a passage of the sun: its two at the moment, and the one at which the angle is
--- reduced.
+-- reduced. That a program makes at least so many tests is said along its definition (`AtLeast`), step by step. By it a
+-- failure after three tests is none of the year of the moment itself.
 use Rattle.book_model.specs.numbers.Expressions.{Expression, remainder, subtract}
 use Rattle.book_model.specs.programs.Programs.{bind}
 use Rattle.book_model.specs.sky.Correction.{year_of}

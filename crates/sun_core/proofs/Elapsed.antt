@@ -1,4 +1,6 @@
--- The time from noon of 1 January 2000 in centuries, of which the days are known too.
+-- The time from noon of 1 January 2000 in centuries, of which the days are known too. The formulas of the definition
+-- take centuries, and the code the days of dynamical time, from which rates lose nothing: the record says that an
+-- expression is these days in centuries, and `by_dynamical` carries a program over the centuries to the code's days.
 use Rattle.std.proofs.Common.{◌≡◌, ℕ, refl, sym, subst, Result, Ok}
 use Rattle.book_model.specs.Interval.{Interval}
 use Rattle.book_model.specs.declared.fail.Fail.{Fail}

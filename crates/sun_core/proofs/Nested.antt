@@ -1,4 +1,5 @@
--- Programs one after another.
+-- Programs one after another: what follows an answer may be taken together, by the cases of a program. So a function of
+-- the code that makes the first two of three steps joins a definition that binds the steps one by one.
 use Rattle.std.specs.Prelude.{◌≡◌, refl}
 use Rattle.book_model.specs.programs.Programs.{Program, answer, void, cell, compare, bind}
 

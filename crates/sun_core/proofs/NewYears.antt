@@ -1,4 +1,7 @@
--- The search for the day on which a season has just begun: how many tests it makes, and from where it sets out.
+-- The search for the day on which a season has just begun: how many tests it makes, and from where it sets out. The
+-- tests of a search are those of a day times the days, by induction; of a day they are those of its moment and a few
+-- more (`AtMost`, along the definition). The start lies near the day, since the estimate is a moment of the years of
+-- which ΔT is known less at most a turn of the mean sun.
 use Rattle.std.specs.Prelude.{◌≡◌, ℕ, zero, suc, ◌*◌, ◌+◌, ◌≤◌, ℤ, pos, ◌+ℤ◌, ◌-ℤ◌, ◌≤ℤ◌, Some, Bool, true, false, cond}
 use Rattle.std.proofs.Common.{arith}
 use Rattle.std.proofs.lemmas.Int.{ints}

@@ -1,4 +1,7 @@
--- A number within an interval; what calls that answer say of their programs.
+-- A number within an interval; what calls that answer say of their programs. What holds a number holds it in a wider
+-- interval too, so that a linear model over an interval serves at each moment of it with no law of its own. The
+-- greatest periodic terms and the others, taken apart, are all: the two parts of the table joined are the table, by
+-- computing, and sums of terms join with them.
 use Rattle.std.specs.Prelude.{◌≡◌, ℕ, ◌≤◌, Result, Ok, Err, IfOk, length, slice_range, ◌++◌, refl}
 use Rattle.book_model.specs.Interval.{Interval, everything, ◌⊆◌}
 use Rattle.book_model.proofs.Intervals.{within_trans, within_everything}

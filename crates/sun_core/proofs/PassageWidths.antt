@@ -1,4 +1,7 @@
--- How wide the moments are at which the sun is next at a longitude, at the scale 2^-56.
+-- How wide the moments are at which the sun is next at a longitude, at the scale 2^-56. The degrees that the sun is
+-- before it are as wide as its longitude; the bound of the moment to which the mean sun leads is computed of them
+-- (`forward_reach`), and so are the two bounds of the bisection, five days before and after. A bisection adds 2^15 to
+-- the wider of these.
 use Rattle.std.specs.Prelude.{◌≡◌, ℕ, ◌+◌, ◌-◌, ◌*◌, ◌^◌, true, pos, neg_ℤ, refl, if◌then◌else◌, ◌==◌, Result, Ok, Err}
 use Rattle.std.proofs.Common.{arith}
 use Rattle.std.proofs.lemmas.Int.{ints}

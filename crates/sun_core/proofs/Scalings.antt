@@ -1,4 +1,7 @@
--- Scaling twice is scaling once, by the product of the two fractions.
+-- Scaling twice is scaling once, by the product of the two fractions. It is proved of members: a number of the interval
+-- times the one and then the other fraction is the number times their product, and what holds it for all members holds
+-- the scaled interval. So a rate a century times days in centuries is a rate a day times days, and the unit of the
+-- sun's terms may be applied in two steps.
 use Rattle.std.proofs.Common.{arith, ◌≡◌, ◌<◌, ◌*◌, ◌-◌, suc, refl, ℤ, [], ◌∷◌}
 use Rattle.book_model.specs.Fraction.{Fraction, ◌≈◌, times, below_product}
 use Rattle.book_model.specs.Interval.{Interval, everything, between, IsProper, IsMember, ◌⊆◌, product, least, greatest}

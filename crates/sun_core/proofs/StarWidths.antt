@@ -1,4 +1,7 @@
--- How wide precession and the sun's longitude among the stars are at the scale 2^-56.
+-- How wide precession and the sun's longitude among the stars are at the scale 2^-56. The bounds of the three angles,
+-- of the two sides of the direction and of the angle from these are computed one after another, each of bounds of its
+-- own arguments (`.._reach`); `measured` leads to the enclosures. One side is at most -1/2, which keeps the arctangent
+-- narrow.
 use Rattle.std.specs.Prelude.{◌≡◌, ℕ, ◌+◌, ◌*◌, ◌/◌, ◌^◌, ◌≤◌, true, pos, neg_ℤ, refl, if◌then◌else◌, ◌==◌}
 use Rattle.std.proofs.Common.{arith}
 use Rattle.book_model.specs.Interval.{Interval}

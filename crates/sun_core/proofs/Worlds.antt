@@ -1,4 +1,6 @@
--- A depth, and two enclosures as arguments.
+-- A depth, and two enclosures as arguments. A world whose first two arguments are the intervals that two enclosures
+-- show is one in which each enclosure holds its own argument: so what a call says of every expression that an enclosure
+-- holds may be used of the enclosure's own interval.
 use Rattle.std.specs.Prelude.{◌==◌, Bool, true, false, if◌then◌else◌}
 use Rattle.std.proofs.Common.{arith}
 use Rattle.book_model.specs.Interval.{Interval, IsProper}

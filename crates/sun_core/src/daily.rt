@@ -12,7 +12,8 @@ use book_model::time_tables::DAY_IN_CENTURIES;
 use encl_core::Enclosure;
 
 // No table has a greater one; with it the centuries would be taken.
-/// The greatest denominator of a rate a century whose rate a day has one in 64 bits.
+/// The greatest denominator of a rate a century whose rate a day has one in 64 bits, in round figures: 36,525 times it is 1.83 · 10¹⁹, and
+/// 2⁶⁴ is 1.84 · 10¹⁹.
 const GREATEST: u64 = 500_000_000_000_000;
 
 /// A rate a century as a rate a day, where its denominator fits.

@@ -1,4 +1,7 @@
--- The rows of the table of ΔT: of which years they are computed, and what stands behind a value of ΔT.
+-- The rows of the table of ΔT: of which years they are computed, and what stands behind a value of ΔT. That each row
+-- can be computed of its years, so that no power leaves 64 bits, is a test over the rows, which is computed
+-- (`forms_kept`). From a run that ends with a value the row is found by the cases of the table's look-up: without a row
+-- the run is void.
 use Rattle.std.specs.Prelude.{◌≡◌, ℕ, ◌-◌, ◌+◌, ℤ, pos, negsuc, ◌+ℤ◌, ◌-ℤ◌, ◌≤ℤ◌, ◌<ℤ◌, Bool, true, ◌&&◌, nat_lt}
 use Rattle.std.specs.Prelude.{unsigned_abs, length, Option, Some, None, refl}
 use Rattle.std.specs.List.{list_all}

@@ -1,5 +1,7 @@
 -- How narrow the values of ΔT are at each scale: computed for each year at the finest scale, and no wider at the
--- others.
+-- others. A test that is computed goes over the rows and over the years of each (`table_close`); `holds_at` takes the
+-- year at hand out of it. To the scales from 2^-36 to 2^-56, which are 21, the result is carried by `CoarserBounds`, of
+-- which that each scale is coarser is computed too.
 use Rattle.std.specs.Prelude.{◌≡◌, ℕ, zero, suc, ◌+◌, ◌-◌, ◌*◌, ◌^◌, nat_le, nat_eq, ◌≤◌, ◌<◌, ℤ, pos, ◌+ℤ◌, ◌≤ℤ◌, ◌<ℤ◌}
 use Rattle.std.specs.Prelude.{Bool, true, ◌&&◌, List, Option, Some, None, IfSome, refl}
 use Rattle.std.specs.List.{list_all}

@@ -1,4 +1,7 @@
--- At one fraction, Horner's form and the sum of coefficients times powers have the same value.
+-- At one fraction, Horner's form and the sum of coefficients times powers have the same value. Both are written as one
+-- fraction without an interval (`sum_to`, `nest_to`), since at an exact number each enclosure of the definition is that
+-- number. Then, by induction on how many coefficients are left, the sum is that of the first terms and a power times
+-- what the others nest to (`split`). The last lemmas are the loop's steps.
 use Rattle.std.proofs.Common.{◌≡◌, ℕ, zero, suc, ◌+◌, ◌-◌, pos, refl, arith, add-one, List, [], ◌∷◌, length}
 use Rattle.std.proofs.Common.{slice_index_or}
 use Rattle.book_model.specs.Fraction.{Fraction, ◌≈◌, whole, plus, times, power}

@@ -1,4 +1,7 @@
--- How wide a polynomial at a fraction of at most some size is: computed of its coefficients.
+-- How wide a polynomial at a fraction of at most some size is: computed of its coefficients. Each step of Horner's form
+-- multiplies what it has by the fraction and adds a coefficient, so that its size and its width are recursions over the
+-- coefficients (`horner_size`, `horner_width`); that they stay within what a scale bears is a test of numbers alone
+-- (`horner_fits`), which callers compute for a table.
 use Rattle.std.specs.Prelude.{◌≡◌, ℕ, zero, suc, ◌+◌, ◌*◌, ◌^◌, ◌≤◌, ◌<◌, Bool, true, false, ◌&&◌, nat_lt, unsigned_abs}
 use Rattle.std.specs.Prelude.{pos, neg_ℤ, ◌≤ℤ◌, List, length, refl}
 use Rattle.std.proofs.Common.{arith}

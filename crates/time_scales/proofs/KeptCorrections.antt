@@ -1,4 +1,6 @@
--- How wide ΔT of a year is when it is taken again.
+-- How wide ΔT of a year is when it is taken again. A trail caches the span of an enclosure, whose endpoints are those
+-- of the enclosure or wider; from a span comes an enclosure that is two units wider at most. The first lemma says what
+-- may be cached, and the second what is taken from that.
 use Rattle.std.specs.Prelude.{◌≡◌, ℕ, ◌+◌, ◌^◌, pos, neg_ℤ, Option, Some, None, Ok, IfSome}
 use Rattle.std.proofs.Common.{arith}
 use Rattle.std.proofs.lemmas.Int.{ints}

@@ -1,4 +1,7 @@
--- Moments that are measured: the year, sums with ΔT, centuries and sidereal time.
+-- Moments that are measured: the year, sums with ΔT, centuries and sidereal time. The bound of each expression is
+-- computed once of bounds of its arguments (`.._reach`), and `measured` leads from there to the enclosure. That a
+-- moment lies in the table follows from its year, which has a row of ΔT. Recent moments are those of which a nearer
+-- range is said, with the same widths.
 use Rattle.std.specs.Prelude.{◌≡◌, ℕ, ◌+◌, ◌*◌, ◌/◌, ◌^◌, ◌≤◌, ℤ, pos, negsuc, neg_ℤ, ◌-ℤ◌, ◌*ℤ◌, ◌≤ℤ◌, true, Result}
 use Rattle.std.specs.Prelude.{Ok, Err, IfOk, IfErr, refl, if◌then◌else◌, ◌==◌, ◌+ℤ◌}
 use Rattle.std.proofs.Common.{arith}

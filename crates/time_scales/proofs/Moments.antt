@@ -1,4 +1,7 @@
--- From where to where moments lie at which a formula has a value: ΔT is known of few years, and is small.
+-- From where to where moments lie at which a formula has a value: ΔT is known of few years, and is small. A run with a
+-- value made the test of the year, whose cell is a year of a row; so the moment lies between the first day of that year
+-- and of the next, and by a test over the rows within the table. What is a sum with ΔT lies at most 200 days further
+-- out.
 use Rattle.std.specs.Prelude.{◌≡◌, int_le, ℤ, pos, negsuc, ◌+ℤ◌, ◌-ℤ◌, ◌&&◌, Some, Bool, true, refl}
 use Rattle.std.specs.List.{list_all}
 use Rattle.std.proofs.Common.{arith, sym, ◌∙◌}

@@ -1,4 +1,7 @@
--- A power of an interval lies within the product of the next lower power and the interval, which may be wider.
+-- A power of an interval lies within the product of the next lower power and the interval, which may be wider. It is
+-- proved of the members: the power of a member is the product of its lower power and itself, and what holds it for the
+-- two endpoints holds it for the interval. By it the code may take a cube from a square, and a scaled fourth power from
+-- a scaled cube, where the definition has powers.
 use Rattle.std.proofs.Common.{◌≡◌, ℕ, suc, Bool, true, false, cond, refl}
 use Rattle.book_model.specs.Fraction.{Fraction, ◌≤F◌, times, power, larger, is_at_most, is_even}
 use Rattle.book_model.specs.Interval.{Interval, everything, between, IsProper, IsMember, ◌⊆◌, product, least_even}

@@ -1,4 +1,6 @@
--- How narrow the values of ΔT are at the scale 2^-56: computed for each year of the table.
+-- How narrow the values of ΔT are at the scale 2^-56: computed for each year of the table. The test goes over the rows
+-- and over the years of each, as in `CorrectionWidths`, with one bound for all years, which formulas cite;
+-- `year_tabled` takes the year at hand out of it.
 use Rattle.std.specs.Prelude.{◌≡◌, ℕ, ◌^◌, ℤ, pos, neg_ℤ, Bool, true, List, Some, refl}
 use Rattle.std.specs.List.{list_all}
 use Rattle.std.proofs.Common.{arith}

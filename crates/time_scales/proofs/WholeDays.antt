@@ -1,4 +1,6 @@
--- An enclosure of a whole day lies in its year.
+-- An enclosure of a whole day lies in its year. The bound of a whole number has it for both endpoints, with width 0, so
+-- that at every scale from 2^-36 on the floors of both are the day, and the cell of the year is the day's. So of a
+-- whole day no test of the year is undecided, and a failure among the first three tests is none of the year.
 use Rattle.std.specs.Prelude.{◌≡◌, ℕ, ◌-◌, ◌*◌, ◌^◌, ◌≤◌, ◌<◌, nat_lt, nat_le, cond, Bool, true, false, ℤ, pos, ◌*ℤ◌}
 use Rattle.std.specs.Prelude.{unsigned_abs, Some, FitsSigned, refl}
 use Rattle.std.proofs.Common.{arith, subst}

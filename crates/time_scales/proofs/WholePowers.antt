@@ -1,4 +1,7 @@
--- The powers of a small whole number, and the sum of a polynomial term by term.
+-- The powers of a small whole number, and the sum of a polynomial term by term. A row of ΔT has at most seven
+-- coefficients and its years are at most 256 from its origin, so that the sixth power, the last that is taken, has 48
+-- bits and a product with one more 56: each is bounded by itself, by cases of the exponent. The last lemma is the
+-- loop's step.
 use Rattle.std.specs.Prelude.{◌≡◌, ℕ, ◌*◌, ◌^◌, ◌≤◌, ◌<◌, ℤ, ◌*ℤ◌, unsigned_abs, FitsSigned}
 use Rattle.std.proofs.Common.{zero, suc, arith}
 use Rattle.std.specs.Int.{w64}

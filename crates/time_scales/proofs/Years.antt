@@ -1,4 +1,7 @@
--- The year of a moment, by its two endpoints.
+-- The year of a moment, by its two endpoints. In 2^-56 of a day an endpoint's day is its Euclidean quotient, which is
+-- the floor; the year of that day is the cell of the endpoint, and a year of both endpoints is that of all between
+-- them. An enclosure and its span hold each other, so that they have the same endpoints, the same cell or none, and
+-- what is undecided of the one is undecided of the other. These lemmas are the ruleset `opening`.
 use Rattle.std.proofs.Common.{◌≡◌, ℕ, ℤ, pos, negsuc, ◌≤ℤ◌, ◌^◌, ◌-◌, ◌∙◌, sym, ap, arith, refl, Option, Some, None}
 use Rattle.std.proofs.Common.{Result, Ok, Err, IfOk, IfErr}
 use Rattle.std.specs.Int.{int_div_euclid}

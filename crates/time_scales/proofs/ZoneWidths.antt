@@ -1,4 +1,7 @@
--- How wide whole days, the hours of a zone and its moments are at the scale 2^-56; the steps of a zone.
+-- How wide whole days, the hours of a zone and its moments are at the scale 2^-56; the steps of a zone. The hours are
+-- constants of the table of places, of which that they are at most 24, and 8 at Beijing, is computed over the rows; the
+-- bound of a moment is computed once of such hours. The steps of a zone are taken one by one, by the first of them and
+-- the others, as the code and the definition do.
 use Rattle.std.specs.Prelude.{◌≡◌, ℕ, ◌+◌, ◌-◌, ◌*◌, ◌^◌, ◌<◌, ◌≤◌, Bool, true, false, ◌&&◌, ℤ, pos, neg_ℤ, ◌*ℤ◌}
 use Rattle.std.specs.Prelude.{nat_lt, int_lt, unsigned_abs, List, [], ◌∷◌, length, take, drop, slice_index_or, refl}
 use Rattle.std.specs.Prelude.{if◌then◌else◌, ◌==◌}

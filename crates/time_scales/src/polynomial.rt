@@ -37,7 +37,8 @@ pub fn cubic<E: Enclosure>(coefficients: &Cubic, x: E) -> E
         .add(square.mul(x).mul_frac(coefficients.cube))
 }
 
-/// The polynomial with these coefficients at a whole number, its powers taken in whole numbers.
+/// The polynomial with these coefficients at a whole number, its powers taken in whole numbers. A row of ΔT has seven coefficients at most
+/// and its years are at most 256 from its origin: the sixth power is at most 2⁴⁸, and the next one, which isn't used, 2⁵⁶.
 #[inline(always)]
 #[tactic(auto, using(crate::proofs::WholePowers::polynomials))]
 pub(crate) fn at_whole<E: Enclosure>(coefficients: &[Frac], x: i64) -> E
