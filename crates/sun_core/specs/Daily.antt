@@ -7,7 +7,7 @@ use Rattle.book_model.specs.declared.polynomial.PeriodicTerm.{PeriodicTerm}
 use Rattle.book_model.specs.declared.time_tables.TheConstants.{DAY_IN_CENTURIES}
 use Rattle.book_model.specs.numbers.Expressions.{Expression, constant, add, scale, sine}
 use Rattle.book_model.specs.numbers.Fractions.{fraction_of, ten_millionths, daily_ten_millionths}
-use Rattle.sun_core.specs.declared.daily.TheConstants.{GREATEST}
+use Rattle.sun_core.specs.declared.daily.TheConstants.{GREATEST_DENOMINATOR}
 
 -- a number of days in centuries
 unfoldable pub in_centuries : Expression → Expression
@@ -15,7 +15,7 @@ in_centuries x = scale (fraction_of DAY_IN_CENTURIES) x
 
 -- whether the rate a day has a denominator of 64 bits, as the code decides it
 unfoldable pub has_daily : Frac → Bool
-has_daily f = nat_lt 0 f.den && nat_le f.den GREATEST
+has_daily f = nat_lt 0 f.den && nat_le f.den GREATEST_DENOMINATOR
 
 -- the days in centuries, and these times the rate
 unfoldable pub by_centuries : Frac → Expression → Expression

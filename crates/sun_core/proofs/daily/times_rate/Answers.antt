@@ -20,12 +20,9 @@ returns-in-Some-clause-narrow g c = λ r x h.
     rw k.0 (rw k.2 at (rw k.3 at m))
 
 pub returns-in-None-clause-holds : goal.returns-in-None-clause-holds
-unfolding by_centuries in_centuries
-returns-in-None-clause-holds g c = λ w x h.
-    c.mul_frac-in-None-2.ensures.encloses.holds w _ (c.mul_frac-in-None.ensures.encloses.holds w x h)
+returns-in-None-clause-holds g c = c.rate_by_centuries.ensures.encloses.holds
 
 pub returns-in-None-clause-narrow : goal.returns-in-None-clause-narrow
-unfolding by_days by_centuries in_centuries
+unfolding by_days
 returns-in-None-clause-narrow g c = λ r x h.
-    rw c.in-None.ensures.daily (c.mul_frac-in-None-2.ensures.encloses.narrow r _
-    (c.mul_frac-in-None.ensures.encloses.narrow r x h))
+    rw c.in-None.ensures.daily (c.rate_by_centuries.ensures.encloses.narrow r x h)
