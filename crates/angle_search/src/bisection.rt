@@ -14,10 +14,10 @@ use book_model::{Fail, Site};
 use encl_core::{Enclosure, Trail, less_step, wrap_step};
 
 /// How many iterations a bisection makes at most: the definition's number. Days ten apart are near after 20.
-const ITERATIONS: u32 = 64;
+const GREATEST_ITERATIONS: u32 = 64;
 
-/// Half a turn of the circle, in degrees.
-const HALF_CIRCLE: i64 = 180;
+/// Half a turn, in degrees.
+pub const HALF_TURN: i64 = 180;
 
 /// The middle of two numbers.
 #[tactic(auto, unfolding(book_model::specs::programs::Bisection::middle_of))]
@@ -64,7 +64,7 @@ pub(crate) fn has_passed<E: Enclosure>(angle: E, target: E, trail: &mut Trail) -
         → IsAbout (2 ^ 58) u (E.shown target) → IfErr result IsClose }
 {
     let past = angle_past(angle, target, trail)?;
-    less_step(past, E::from_int(HALF_CIRCLE), Site::Bisect, trail)
+    less_step(past, E::from_int(HALF_TURN), Site::Bisect, trail)
 }
 
 /// Whether a function has passed an angle at a number.
@@ -140,5 +140,5 @@ pub fn invert_angular<E: Enclosure, F: Angular<E>>(
         → Measures (λ x. IsMoment (greatest_of BISECTION v) (E.shown x)) result }
 {
     let mut known = Known::<F>::new();
-    bisected(ITERATIONS, f, &mut known, y, low, high, trail)
+    bisected(GREATEST_ITERATIONS, f, &mut known, y, low, high, trail)
 }

@@ -16,7 +16,7 @@ use book_model::tables::HALF;
 use book_model::{Fail, Site};
 use encl_core::{Enclosure, Trail, floor_step, less_step, wrap_step};
 use new_moons::new_moon;
-use sun_core::sun;
+use sun_core::{HALF_TURN, sun};
 
 /// An angle, reduced to 0 up to 360 degrees, as one test.
 #[tactic(auto, using(book_model::proofs::Leads::leading, crate::proofs::UndecidedTests::opening), unfolding(book_model::specs::sky::Phases::within_turn_of))]
@@ -147,7 +147,7 @@ fn test_which_phase<E: Enclosure>(
         result }
 {
     let apart = size(by_longitudes.sub(by_time));
-    let is_apart = less_step(E::from_int(180), apart, Site::PhasePick, trail)?;
+    let is_apart = less_step(E::from_int(HALF_TURN), apart, Site::PhasePick, trail)?;
     Ok(phase_of_choice(is_apart, by_longitudes, by_time))
 }
 

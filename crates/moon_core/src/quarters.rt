@@ -21,7 +21,7 @@ use encl_core::{Enclosure, Trail, floor_step, wrap_step};
 use sun_core::{Angular, days_over, invert_angular};
 
 /// How many days before and after the moment by the mean phase the moon is sought.
-const DAYS_ABOUT: i64 = 2;
+const PHASE_DAYS_ABOUT: i64 = 2;
 
 /// The phase of the moon, as an angle that grows with time.
 impl<E: Enclosure> Angular<E> for PhaseLinearModel<E> {
@@ -95,7 +95,7 @@ fn phase_about<E: Enclosure>(
         → IsMoment v (E.shown t) → IsNearMoment v (E.shown about)
         → Measures (λ x. IsMoment (v + 2 ^ 24) (E.shown x)) result }
 {
-    let days = E::from_int(DAYS_ABOUT);
+    let days = E::from_int(PHASE_DAYS_ABOUT);
     invert_angular::<E, PhaseLinearModel<E>>(
         linear_model,
         phase,

@@ -11,12 +11,10 @@ ghost use Rattle.encl_core.specs.GreatestWidths.{greatest_of};
 ghost use Rattle.time_scales.specs.Steps.{IsEarlyYearFor};
 
 use crate::longitude::sun;
+use angle_search::HALF_TURN;
 use book_model::sun_tables::DEGREE_OF_YEAR;
 use book_model::{Fail, Site};
 use encl_core::{Enclosure, Trail, wrap_step};
-
-/// Half a turn, in degrees.
-const HALF_TURN: i64 = 180;
 
 /// An angle, reduced to 0 up to 360 degrees: one test, at `step-wrap`.
 #[tactic(auto, using(book_model::proofs::Leads::leading, crate::proofs::UndecidedTests::opening), unfolding(book_model::specs::sky::Sun::reduced_of))]

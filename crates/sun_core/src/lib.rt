@@ -29,7 +29,7 @@ mod single_terms;
 mod stars;
 mod turns;
 
-pub use angle_search::{Angular, invert_angular};
+pub use angle_search::{Angular, HALF_TURN, invert_angular};
 pub use apparent::{from_apparent, noon, paris_midnight};
 pub use arc_series::{arccos_deg, arcsin_deg};
 pub use daily::times_rate;

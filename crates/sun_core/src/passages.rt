@@ -18,7 +18,7 @@ use book_model::sun_tables::DEGREE_OF_YEAR;
 use encl_core::{Enclosure, Trail};
 
 /// How many days before and after the moment by the mean sun the sun is sought.
-const DAYS_ABOUT: i64 = 5;
+const PASSAGE_DAYS_ABOUT: i64 = 5;
 
 /// The longitude of the sun, as an angle that grows with time.
 impl<E: Enclosure> Angular<E> for SunLinearModel<E> {
@@ -82,7 +82,7 @@ fn passage_about<E: Enclosure>(
         → IsMoment v (E.shown t) → IsNearMoment v (E.shown about)
         → Measures (λ x. IsMoment (v + 2 ^ 24) (E.shown x)) result }
 {
-    let days = E::from_int(DAYS_ABOUT);
+    let days = E::from_int(PASSAGE_DAYS_ABOUT);
     invert_angular::<E, SunLinearModel<E>>(
         linear_model,
         longitude,
