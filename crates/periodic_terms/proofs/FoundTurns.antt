@@ -17,8 +17,10 @@ use Rattle.periodic_terms.specs.declared.mean.MeanTurn.{MeanTurn}
 
 pub turn_found : {E : Type 0} (shown : E → Interval) (angle : E) (lo hi : ℤ) (o : Option MeanTurn)
     → shown angle ⊆ between (units_of_56 lo) (units_of_56 hi)
-    → IfSome o (λ t. (i : Interval) → i ⊆ between (units_of_56 lo) (units_of_56 hi) → IsNearTurn (pos t.turn) t.half i)
-    → IfSome o (λ t. (w : World) (x : Expression) → Within shown w x angle → IsNearTurn (pos t.turn) t.half (value w x))
+    → IfSome o (λ t. (i : Interval) → i ⊆ between (units_of_56 lo) (units_of_56 hi)
+    → IsNearTurn (pos t.turn.0) t.half.count i)
+    → IfSome o (λ t. (w : World) (x : Expression) → Within shown w x angle → IsNearTurn (pos t.turn.0) t.half.count
+    (value w x))
 unfolding Lies
 turn_found shown angle lo hi None s h = h
 turn_found shown angle lo hi (Some t) s h = λ w x k. h (value w x) (within_trans k.inside s)
@@ -32,11 +34,11 @@ factor_inside f h lo hi i l u k = within_trans k (record {
 
 pub factor_found : {E : Type 0} (shown : E → Interval) (factor : E) (lo hi : ℤ) (o : Option MeanFactor)
     → shown factor ⊆ between (units_of_56 lo) (units_of_56 hi)
-    → IfSome o (λ f. (pos f.middle -ℤ pos f.wide) ≤ℤ lo) → IfSome o (λ f. hi ≤ℤ (pos f.middle +ℤ pos f.wide))
-    → IfSome o (λ f. (w : World) (x : Expression) → Within shown w x factor → IsFactor f.middle f.wide (value w x))
+    → IfSome o (λ f. (pos f.middle.0 -ℤ pos f.wide.0) ≤ℤ lo) → IfSome o (λ f. hi ≤ℤ (pos f.middle.0 +ℤ pos f.wide.0))
+    → IfSome o (λ f. (w : World) (x : Expression) → Within shown w x factor → IsFactor f.middle.0 f.wide.0 (value w x))
 unfolding Lies
 factor_found shown factor lo hi None s l u = l
-factor_found shown factor lo hi (Some f) s l u = λ w x k. factor_inside f.middle f.wide lo hi (value w x) l u
+factor_found shown factor lo hi (Some f) s l u = λ w x k. factor_inside f.middle.0 f.wide.0 lo hi (value w x) l u
     (within_trans k.inside s)
 
 -- wider ones
@@ -51,15 +53,16 @@ wider_factor f v h i l k = within_trans k (record {
 pub first_found : {E : Type 0} (shown : E → Interval) (factor : E) (f v : ℕ) (o : Option MeanFactors)
     → ((w : World) (x : Expression)
     → Within shown w x factor → IsFactor f v (value w x))
-    → IfSome o (λ t. t.first ≡ f) → IfSome o (λ t. v ≤ t.wide) → IfSome o (λ t. (w : World)
-    (x : Expression) → Within shown w x factor → IsFactor t.first t.wide (value w x))
+    → IfSome o (λ t. t.first.0 ≡ f) → IfSome o (λ t. v ≤ t.wide.0) → IfSome o (λ t. (w : World)
+    (x : Expression) → Within shown w x factor → IsFactor t.first.0 t.wide.0 (value w x))
 first_found shown factor f v None h e l = e
-first_found shown factor f v (Some t) h e l = λ w x k. rw e (wider_factor f v t.wide (value w x) l (h w x k))
+first_found shown factor f v (Some t) h e l = λ w x k. rw e (wider_factor f v t.wide.0 (value w x) l (h w x k))
 
 pub second_found : {E : Type 0} (shown : E → Interval) (factor : E) (f v : ℕ) (o : Option MeanFactors)
     → ((w : World) (x : Expression)
     → Within shown w x factor → IsFactor f v (value w (power x 2)))
-    → IfSome o (λ t. t.second ≡ f) → IfSome o (λ t. v ≤ t.wide) → IfSome o (λ t. (w : World)
-    (x : Expression) → Within shown w x factor → IsFactor t.second t.wide (value w (power x 2)))
+    → IfSome o (λ t. t.second.0 ≡ f) → IfSome o (λ t. v ≤ t.wide.0) → IfSome o (λ t. (w : World)
+    (x : Expression) → Within shown w x factor → IsFactor t.second.0 t.wide.0 (value w (power x 2)))
 second_found shown factor f v None h e l = e
-second_found shown factor f v (Some t) h e l = λ w x k. rw e (wider_factor f v t.wide (value w (power x 2)) l (h w x k))
+second_found shown factor f v (Some t) h e l =
+    λ w x k. rw e (wider_factor f v t.wide.0 (value w (power x 2)) l (h w x k))

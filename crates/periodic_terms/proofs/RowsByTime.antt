@@ -214,8 +214,8 @@ abs_below z = omega (arith, ints)
 pub record IsRow (v : PeriodicTerm) (t : TurningTerm) (turn : ℕ) (s mid : ℤ) (w : ℕ) (lo hi : ℤ) : Type 0 where
   pub turning : IsTurning v t
   pub turn_fits : turn < 2 ^ 64
-  pub turn_is : pos turn ≡ (pos t.phase +ℤ turn_part t.rate mid)
-      -ℤ whole_turns (pos t.phase +ℤ turn_part t.rate mid) *ℤ pos (2 ^ 64)
+  pub turn_is : pos turn ≡ (pos t.phase.0 +ℤ turn_part t.rate.0 mid)
+      -ℤ whole_turns (pos t.phase.0 +ℤ turn_part t.rate.0 mid) *ℤ pos (2 ^ 64)
   pub near : AreNear mid w lo hi
   pub point : HasPoint (octant_of turn) (degrees_of turn) (s -ℤ pos 3) (s +ℤ pos 3)
   pub above : neg_ℤ (pos (2 ^ 56)) ≤ℤ s
@@ -224,10 +224,10 @@ pub record IsRow (v : PeriodicTerm) (t : TurningTerm) (turn : ℕ) (s mid : ℤ)
 module _ (v : PeriodicTerm) (t : TurningTerm) (turn : ℕ) (s mid : ℤ) (w : ℕ) (lo hi : ℤ)
     (h : IsRow v t turn s mid w lo hi) where
   abbrev part : ℤ
-  part = turn_part t.rate mid
+  part = turn_part t.rate.0 mid
 
   abbrev turns : ℤ
-  turns = whole_turns (pos t.phase +ℤ part)
+  turns = whole_turns (pos t.phase.0 +ℤ part)
 
   abbrev octant : ℤ
   octant = pos 8 *ℤ turns +ℤ pos (octant_of turn)
@@ -241,17 +241,18 @@ module _ (v : PeriodicTerm) (t : TurningTerm) (turn : ℕ) (s mid : ℤ) (w : �
   abbrev width : ℤ
   width = pos (moved / 365250000000 + 28)
 
-  sum_is : pos turn +ℤ turns *ℤ pos (2 ^ 64) ≡ pos t.phase +ℤ part
+  sum_is : pos turn +ℤ turns *ℤ pos (2 ^ 64) ≡ pos t.phase.0 +ℤ part
   sum_is = omega (arith, ints, h.turn_is)
 
-  angle_is : (x : ℤ) → lo ≤ℤ x → x ≤ℤ hi → Angle v.phase (pos t.phase) (v.rate *ℤ mid) (t.rate *ℤ mid) part degrees
+  angle_is : (x : ℤ) → lo ≤ℤ x → x ≤ℤ hi → Angle v.phase (pos t.phase.0) (v.rate *ℤ mid) (t.rate.0 *ℤ mid) part degrees
       (x *ℤ v.rate) (pos moved) width
   angle_is x l u =
-      let r = rate_products v.rate t.rate mid h.turning.rate_below h.turning.rate_close h.near.least h.near.greatest in
+      let r = rate_products v.rate t.rate.0 mid h.turning.rate_below h.turning.rate_close h.near.least h.near.greatest
+      in
       let m = moved_products v.rate (pos (unsigned_abs v.rate)) mid (pos w) x (abs_above v.rate) (abs_below v.rate)
       (omega (arith, ints, h.near.above, l))
       (omega (arith, ints, h.near.below, u)) in
-      let f = floor_quotient_is (t.rate *ℤ mid) (2 ^ 64 - 1) in
+      let f = floor_quotient_is (t.rate.0 *ℤ mid) (2 ^ 64 - 1) in
       let d = rw sum_is at (degrees_are turn turns) in
       record {
         phase_below = h.turning.phase_below;
@@ -275,8 +276,8 @@ module _ (v : PeriodicTerm) (t : TurningTerm) (turn : ℕ) (s mid : ℤ) (w : �
   angle_near x l u =
       let a = angle_is x l u in
       angle_within v.phase v.rate x (degrees -ℤ width) (degrees +ℤ width)
-      (angle_above v.phase (pos t.phase) _ _ part degrees _ (pos moved) width a)
-      (angle_below v.phase (pos t.phase) _ _ part degrees _ (pos moved) width a)
+      (angle_above v.phase (pos t.phase.0) _ _ part degrees _ (pos moved) width a)
+      (angle_below v.phase (pos t.phase.0) _ _ part degrees _ (pos moved) width a)
 
   sine_there : (n : ℕ) (i : Interval) → 40 ≤ n → IsProper i → i ⊆ between (units_of_56 lo) (units_of_56 hi)
       → sine_of_degrees n (sum (exactly (ten_millionths v.phase)) (product i (exactly (daily_ten_millionths v.rate))))

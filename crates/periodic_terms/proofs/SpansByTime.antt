@@ -13,6 +13,7 @@ use Rattle.book_model.specs.declared.polynomial.PeriodicTerm.{PeriodicTerm}
 use Rattle.book_model.specs.programs.Leading.{units_of_56}
 use Rattle.trig_series.proofs.OctantLemmas.{order_at}
 use Rattle.periodic_terms.specs.Turning.{AreNear, HasReach, radius_to, reach_to, sizes_to}
+use Rattle.periodic_terms.specs.declared.units.Days56.{Days56}
 use Rattle.periodic_terms.proofs.SumsByTime.{around, radius_is}
 
 enough : (radius reach sizes slope all w r : ℤ) → (radius *ℤ pos 20819250000000)
@@ -88,17 +89,17 @@ middle_fits mid lo hi a b l u o = record {
   after = omega (arith, ints, a, b, l, u, o);
 }
 
-pub near_by : (mid lo hi : ℤ) (o : Option ℕ) → lo ≤ℤ hi → neg_ℤ (pos (2 ^ 68)) ≤ℤ mid → mid ≤ℤ pos (2 ^ 68)
-    → IfSome o (λ w. (mid *ℤ pos 256 -ℤ lo) ≤ℤ pos w) → IfSome o (λ w. (hi -ℤ mid *ℤ pos 256) ≤ℤ pos w)
-    → IfSome o (λ w. AreNear mid w lo hi)
+pub near_by : (mid lo hi : ℤ) (o : Option Days56) → lo ≤ℤ hi → neg_ℤ (pos (2 ^ 68)) ≤ℤ mid → mid ≤ℤ pos (2 ^ 68)
+    → IfSome o (λ w. (mid *ℤ pos 256 -ℤ lo) ≤ℤ pos w.0) → IfSome o (λ w. (hi -ℤ mid *ℤ pos 256) ≤ℤ pos w.0)
+    → IfSome o (λ w. AreNear mid w.0 lo hi)
 near_by mid lo hi None o l u b a = b
 near_by mid lo hi (Some w) o l u b a =
     record { ordered = o; above = omega (arith, ints, b); below = omega (arith, ints, a); least = l; greatest = u }
 
-pub half_by : (mid lo hi : ℤ) (o : Option ℕ) → (mid *ℤ pos (2 ^ 9)) ≤ℤ (lo +ℤ hi)
+pub half_by : (mid lo hi : ℤ) (o : Option Days56) → (mid *ℤ pos (2 ^ 9)) ≤ℤ (lo +ℤ hi)
     → (lo +ℤ hi) ≤ℤ (mid *ℤ pos (2 ^ 9) +ℤ pos (2 ^ 9))
-    → IfSome o (λ w. (d : ℤ) → (mid *ℤ pos 256 -ℤ lo) ≤ℤ d → (hi -ℤ mid *ℤ pos 256) ≤ℤ d → pos w ≤ℤ d)
-    → IfSome o (λ w. (pos 2 *ℤ pos w) ≤ℤ ((hi -ℤ lo) +ℤ pos (2 ^ 9)))
+    → IfSome o (λ w. (d : ℤ) → (mid *ℤ pos 256 -ℤ lo) ≤ℤ d → (hi -ℤ mid *ℤ pos 256) ≤ℤ d → pos w.0 ≤ℤ d)
+    → IfSome o (λ w. (pos 2 *ℤ pos w.0) ≤ℤ ((hi -ℤ lo) +ℤ pos (2 ^ 9)))
 half_by mid lo hi None b c h = h
 half_by mid lo hi (Some w) b c h =
     by_lt_z (mid *ℤ pos 256 -ℤ lo) (hi -ℤ mid *ℤ pos 256)

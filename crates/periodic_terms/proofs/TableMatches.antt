@@ -14,11 +14,11 @@ use Rattle.periodic_terms.specs.declared.rows_by_time.TurningTerm.{TurningTerm}
 -- ---- the tests
 abbrev pub is_turning : PeriodicTerm → TurningTerm → Bool
 is_turning v t =
-    le_z t.size v.size && le_z v.size t.size && le_z (pos t.phase *ℤ pos 3600000000) (v.phase *ℤ pos (2 ^ 64)) && le_z
+    le_z t.size v.size && le_z v.size t.size && le_z (pos t.phase.0 *ℤ pos 3600000000) (v.phase *ℤ pos (2 ^ 64)) && le_z
     (v.phase *ℤ pos (2 ^ 64))
-    (pos t.phase *ℤ pos 3600000000 +ℤ pos 3600000000)
-    && le_z (t.rate *ℤ pos 16436250000000) (v.rate *ℤ pos (2 ^ 77)) && le_z (v.rate *ℤ pos (2 ^ 77))
-    (t.rate *ℤ pos 16436250000000 +ℤ pos 16436250000000)
+    (pos t.phase.0 *ℤ pos 3600000000 +ℤ pos 3600000000)
+    && le_z (t.rate.0 *ℤ pos 16436250000000) (v.rate *ℤ pos (2 ^ 77)) && le_z (v.rate *ℤ pos (2 ^ 77))
+    (t.rate.0 *ℤ pos 16436250000000 +ℤ pos 16436250000000)
 
 abbrev pub all_turning : List PeriodicTerm → List TurningTerm → Bool
 all_turning [] [] = true

@@ -200,13 +200,15 @@ lunar_near : (w : World) (a : LunarAngles) (t : MeanTurns) (r : Multiples)
     r.latitude_argument))
 unfolding value lunar_angle_of
 lunar_near w a t r k h =
-    let d = part_near w a.elongation r.elongation (pos t.elongation.turn) t.elongation.half (k.elongation h.elongation)
+    let d = part_near w a.elongation r.elongation (pos t.elongation.turn.0) t.elongation.half.count
+    (k.elongation h.elongation)
     in
-    let m = part_near w a.sun_anomaly r.sun_anomaly (pos t.sun_anomaly.turn) t.sun_anomaly.half
+    let m = part_near w a.sun_anomaly r.sun_anomaly (pos t.sun_anomaly.turn.0) t.sun_anomaly.half.count
     (k.sun_anomaly h.sun_anomaly) in
-    let n = part_near w a.moon_anomaly r.moon_anomaly (pos t.moon_anomaly.turn) t.moon_anomaly.half
+    let n = part_near w a.moon_anomaly r.moon_anomaly (pos t.moon_anomaly.turn.0) t.moon_anomaly.half.count
     (k.moon_anomaly h.moon_anomaly) in
-    let f = part_near w a.latitude_argument r.latitude_argument (pos t.latitude_argument.turn) t.latitude_argument.half
+    let f = part_near w a.latitude_argument r.latitude_argument (pos t.latitude_argument.turn.0)
+    t.latitude_argument.half.count
     (k.latitude_argument h.latitude_argument) in
     sum_near _ _ _ _ _ _ (sum_near _ _ _ _ _ _ (sum_near _ _ _ _ _ _ d m) n) f
 
@@ -218,18 +220,21 @@ none_of w x t h k = none_near t h (value w x) (value_proper w x) k
 
 two_near : (w : World) (a : LunarAngles) (t : MeanTurns) (p q : ℤ) → AreTwoTurns w a t
     → AreKnown t
-    → IsNearTurn (((p *ℤ pos t.elongation.turn +ℤ pos 0 *ℤ pos t.sun_anomaly.turn) +ℤ q *ℤ pos t.moon_anomaly.turn)
-    +ℤ pos 0 *ℤ pos t.latitude_argument.turn)
-    (((unsigned_abs p * t.elongation.half + 0 * t.sun_anomaly.half) + unsigned_abs q * t.moon_anomaly.half)
-    + 0 * t.latitude_argument.half)
+    → IsNearTurn
+    (((p *ℤ pos t.elongation.turn.0 +ℤ pos 0 *ℤ pos t.sun_anomaly.turn.0) +ℤ q *ℤ pos t.moon_anomaly.turn.0)
+    +ℤ pos 0 *ℤ pos t.latitude_argument.turn.0)
+    (((unsigned_abs p * t.elongation.half.count + 0 * t.sun_anomaly.half.count) + unsigned_abs
+    q * t.moon_anomaly.half.count)
+    + 0 * t.latitude_argument.half.count)
     (value w (lunar_angle_of a p (pos 0) q (pos 0)))
 unfolding value lunar_angle_of
 two_near w a t p q k h =
-    let d = part_near w a.elongation p (pos t.elongation.turn) t.elongation.half (k.elongation h.elongation) in
-    let m = none_of w a.sun_anomaly (pos t.sun_anomaly.turn) t.sun_anomaly.half (k.sun_anomaly h.sun_anomaly) in
-    let n = part_near w a.moon_anomaly q (pos t.moon_anomaly.turn) t.moon_anomaly.half (k.moon_anomaly h.moon_anomaly)
+    let d = part_near w a.elongation p (pos t.elongation.turn.0) t.elongation.half.count (k.elongation h.elongation) in
+    let m = none_of w a.sun_anomaly (pos t.sun_anomaly.turn.0) t.sun_anomaly.half.count (k.sun_anomaly h.sun_anomaly) in
+    let n = part_near w a.moon_anomaly q (pos t.moon_anomaly.turn.0) t.moon_anomaly.half.count
+    (k.moon_anomaly h.moon_anomaly)
     in
-    let f = none_of w a.latitude_argument (pos t.latitude_argument.turn) t.latitude_argument.half
+    let f = none_of w a.latitude_argument (pos t.latitude_argument.turn.0) t.latitude_argument.half.count
     (k.latitude_argument h.latitude_argument) in
     sum_near _ _ _ _ _ _ (sum_near _ _ _ _ _ _ (sum_near _ _ _ _ _ _ d m) n) f
 
@@ -239,20 +244,21 @@ new_moon_near : (w : World) (e : Expression) (a : NewMoonAngles) (t : MeanTurns)
     (value w (angle_of_new_moon_term a r))
 unfolding value angle_of_new_moon_term
 new_moon_near w e a t r k h =
-    let m = part_near w a.sun_anomaly r.sun_anomaly (pos t.sun_anomaly.turn) t.sun_anomaly.half
+    let m = part_near w a.sun_anomaly r.sun_anomaly (pos t.sun_anomaly.turn.0) t.sun_anomaly.half.count
     (k.sun_anomaly h.sun_anomaly) in
-    let n = part_near w a.moon_anomaly r.moon_anomaly (pos t.moon_anomaly.turn) t.moon_anomaly.half
+    let n = part_near w a.moon_anomaly r.moon_anomaly (pos t.moon_anomaly.turn.0) t.moon_anomaly.half.count
     (k.moon_anomaly h.moon_anomaly) in
-    let f = part_near w a.latitude_argument r.latitude_argument (pos t.latitude_argument.turn) t.latitude_argument.half
+    let f = part_near w a.latitude_argument r.latitude_argument (pos t.latitude_argument.turn.0)
+    t.latitude_argument.half.count
     (k.latitude_argument h.latitude_argument) in
     let s = sum_near _ _ _ _ _ _ (sum_near _ _ _ _ _ _ m n) f in
     rw (
-      three_counted t.elongation.half (unsigned_abs r.sun_anomaly * t.sun_anomaly.half)
-          (unsigned_abs r.moon_anomaly * t.moon_anomaly.half)
-          (unsigned_abs r.latitude_argument * t.latitude_argument.half),
-      without_first (pos t.elongation.turn)
-          (r.sun_anomaly *ℤ pos t.sun_anomaly.turn) (r.moon_anomaly *ℤ pos t.moon_anomaly.turn)
-          (r.latitude_argument *ℤ pos t.latitude_argument.turn),
+      three_counted t.elongation.half.count (unsigned_abs r.sun_anomaly * t.sun_anomaly.half.count)
+          (unsigned_abs r.moon_anomaly * t.moon_anomaly.half.count)
+          (unsigned_abs r.latitude_argument * t.latitude_argument.half.count),
+      without_first (pos t.elongation.turn.0)
+          (r.sun_anomaly *ℤ pos t.sun_anomaly.turn.0) (r.moon_anomaly *ℤ pos t.moon_anomaly.turn.0)
+          (r.latitude_argument *ℤ pos t.latitude_argument.turn.0),
     ) at s
 
 -- ---- the terms

@@ -172,8 +172,9 @@ counted c h e n l = le_by (c ∷ h ∷ e ∷ []) ((lit (pos 0) ≼ at 0) ∷ (at
     (lit (pos 1824) ⊗ (at 0 ⊗ at 2))
     (known 0 ⊠ known 1) refl (n, (l, tt))
 
-part_counted : (c : ℕ) (a : MeanTurn) → pos (c * a.half) ≤ℤ (pos 1824 *ℤ pos (spread_by c a))
-part_counted c a = counted (pos c) (pos a.half) (pos (a.half / 1824 + 1)) (pos_nonneg c) (half_below a.half)
+part_counted : (c : ℕ) (a : MeanTurn) → pos (c * a.half.count) ≤ℤ (pos 1824 *ℤ pos (spread_by c a))
+part_counted c a = counted (pos c) (pos a.half.count) (pos (a.half.count / 1824 + 1)) (pos_nonneg c)
+    (half_below a.half.count)
 
 four_at_most : (a b c d p q r s : ℕ) → pos a ≤ℤ (pos 1824 *ℤ pos p) → pos b ≤ℤ (pos 1824 *ℤ pos q)
     → pos c ≤ℤ (pos 1824 *ℤ pos r)
@@ -182,9 +183,10 @@ four_at_most a b c d p q r s h i j k = omega (arith, ints, h, i, j, k)
 
 radius_enough : (t : MeanTurns) (r : Multiples) → sine_width (half_of t r) + 3 ≤ sine_radius t r
 radius_enough t r =
-    four_at_most (unsigned_abs r.elongation * t.elongation.half) (unsigned_abs r.sun_anomaly * t.sun_anomaly.half)
+    four_at_most (unsigned_abs r.elongation * t.elongation.half.count)
+    (unsigned_abs r.sun_anomaly * t.sun_anomaly.half.count)
     (unsigned_abs r.moon_anomaly *
-    t.moon_anomaly.half) (unsigned_abs r.latitude_argument * t.latitude_argument.half)
+    t.moon_anomaly.half.count) (unsigned_abs r.latitude_argument * t.latitude_argument.half.count)
     (spread_by (unsigned_abs r.elongation) t.elongation)
     (spread_by (unsigned_abs r.sun_anomaly) t.sun_anomaly) (spread_by (unsigned_abs r.moon_anomaly) t.moon_anomaly)
     (spread_by (unsigned_abs r.latitude_argument) t.latitude_argument)
@@ -206,7 +208,7 @@ sine_wider s m r i h k = within_trans k (record {
 -- ---- the sine with its power
 abbrev width_of : MeanTurns → ℕ → ℕ
 width_of t zero = 0
-width_of t (suc k) = t.factors.wide + 1
+width_of t (suc k) = t.factors.wide.0 + 1
 
 -- without one
 plain_within : (g : ℕ) (s : ℤ) (r : ℕ) (i : Interval) → 2 ^ 37 ≤ g
@@ -271,20 +273,20 @@ power_within : (w : World) (t : MeanTurns) (k : ℕ) (factor x : Expression) (s 
     → neg_ℤ (pos (2 ^ 56)) ≤ℤ s
     → (q *ℤ pos (2 ^ 56)) ≤ℤ (pos (factor_of t.factors k) *ℤ s) → (pos (factor_of t.factors k) *ℤ s)
     <ℤ (q *ℤ pos (2 ^ 56) +ℤ pos (2 ^ 56))
-    → (k ≡ 1 → IsFactor t.factors.first t.factors.wide (value w factor))
-    → (k ≡ 2 → IsFactor t.factors.second t.factors.wide (value w (power factor 2)))
+    → (k ≡ 1 → IsFactor t.factors.first.0 t.factors.wide.0 (value w factor))
+    → (k ≡ 2 → IsFactor t.factors.second.0 t.factors.wide.0 (value w (power factor 2)))
     → value w x ⊆ between (units_of_56 (s -ℤ pos r)) (units_of_56 (s +ℤ pos r))
     → value w (times_power factor k x) ⊆ around_93 0 (pos (2 ^ 37) *ℤ q)
-    (t.factors.greatest * r + width_of t k * 2 ^ 37)
+    (t.factors.greatest.0 * r + width_of t k * 2 ^ 37)
 unfolding value times_power
-power_within w t zero factor x s q r few a b l u f g h = plain_scaled t.factors.greatest s q r
+power_within w t zero factor x s q r few a b l u f g h = plain_scaled t.factors.greatest.0 s q r
     (value w x) t.factors.least l u h
 power_within w t (suc zero) factor x s q r few a b l u f g h =
-    powered_within t.factors.first t.factors.wide t.factors.greatest s q r (value w factor) (value w x)
+    powered_within t.factors.first.0 t.factors.wide.0 t.factors.greatest.0 s q r (value w factor) (value w x)
     (value_proper w factor)
     (value_proper w x) t.factors.first_high t.factors.first_low a b l u (f refl) h
 power_within w t (suc (suc zero)) factor x s q r few a b l u f g h =
-    powered_within t.factors.second t.factors.wide t.factors.greatest s q r (value w (power factor 2)) (value w x)
+    powered_within t.factors.second.0 t.factors.wide.0 t.factors.greatest.0 s q r (value w (power factor 2)) (value w x)
     (value_proper w (power factor 2))
     (value_proper w x) t.factors.second_high t.factors.second_low a b l u (g refl) h
 power_within w t (suc (suc (suc k))) factor x s q r few a b l u f g h = absurd (omega (arith, few))
@@ -322,40 +324,40 @@ spread a g c d e f i j k l x y h =
 -- the radius of a row whose size is p where it has a power
 abbrev radius_with : MeanTurns → Multiples → ℕ → ℕ
 radius_with t r p =
-    t.factors.greatest * (spread_by (unsigned_abs r.size * unsigned_abs r.elongation) t.elongation
+    t.factors.greatest.0 * (spread_by (unsigned_abs r.size * unsigned_abs r.elongation) t.elongation
     + spread_by (unsigned_abs r.size * unsigned_abs r.sun_anomaly) t.sun_anomaly
     + spread_by (unsigned_abs r.size * unsigned_abs r.moon_anomaly) t.moon_anomaly
     + spread_by (unsigned_abs r.size * unsigned_abs r.latitude_argument) t.latitude_argument + 11 * unsigned_abs r.size)
-    + p * ((t.factors.wide + 1) * 2 ^ 37)
+    + p * ((t.factors.wide.0 + 1) * 2 ^ 37)
 
 radius_by : (t : MeanTurns) (r : Multiples) (k : ℕ)
-    → unsigned_abs r.size * (t.factors.greatest * sine_radius t r + width_of t k * 2 ^ 37) ≡ radius_with t r
+    → unsigned_abs r.size * (t.factors.greatest.0 * sine_radius t r + width_of t k * 2 ^ 37) ≡ radius_with t r
     (powered_of r.size k)
 radius_by t r zero =
-    spread (unsigned_abs r.size) t.factors.greatest (unsigned_abs r.elongation) (unsigned_abs r.sun_anomaly)
+    spread (unsigned_abs r.size) t.factors.greatest.0 (unsigned_abs r.elongation) (unsigned_abs r.sun_anomaly)
     (unsigned_abs r.moon_anomaly)
-    (unsigned_abs r.latitude_argument) (t.elongation.half / 1824 + 1) (t.sun_anomaly.half / 1824 + 1)
-    (t.moon_anomaly.half / 1824 + 1)
-    (t.latitude_argument.half / 1824 + 1) (0 * 2 ^ 37) (0 * ((t.factors.wide + 1) * 2 ^ 37)) (omega arith)
+    (unsigned_abs r.latitude_argument) (t.elongation.half.count / 1824 + 1) (t.sun_anomaly.half.count / 1824 + 1)
+    (t.moon_anomaly.half.count / 1824 + 1)
+    (t.latitude_argument.half.count / 1824 + 1) (0 * 2 ^ 37) (0 * ((t.factors.wide.0 + 1) * 2 ^ 37)) (omega arith)
 radius_by t r (suc k) =
-    spread (unsigned_abs r.size) t.factors.greatest (unsigned_abs r.elongation) (unsigned_abs r.sun_anomaly)
+    spread (unsigned_abs r.size) t.factors.greatest.0 (unsigned_abs r.elongation) (unsigned_abs r.sun_anomaly)
     (unsigned_abs r.moon_anomaly)
-    (unsigned_abs r.latitude_argument) (t.elongation.half / 1824 + 1) (t.sun_anomaly.half / 1824 + 1)
-    (t.moon_anomaly.half / 1824 + 1)
-    (t.latitude_argument.half / 1824 + 1) ((t.factors.wide + 1) * 2 ^ 37)
-    (unsigned_abs r.size * ((t.factors.wide + 1) * 2 ^ 37)) refl
+    (unsigned_abs r.latitude_argument) (t.elongation.half.count / 1824 + 1) (t.sun_anomaly.half.count / 1824 + 1)
+    (t.moon_anomaly.half.count / 1824 + 1)
+    (t.latitude_argument.half.count / 1824 + 1) ((t.factors.wide.0 + 1) * 2 ^ 37)
+    (unsigned_abs r.size * ((t.factors.wide.0 + 1) * 2 ^ 37)) refl
 
 radius_is : (t : MeanTurns) (r : Multiples)
-    → unsigned_abs r.size * (t.factors.greatest * sine_radius t r + width_of t r.power * 2 ^ 37) ≡ radius_of t
+    → unsigned_abs r.size * (t.factors.greatest.0 * sine_radius t r + width_of t r.power * 2 ^ 37) ≡ radius_of t
     (sums_of r)
 radius_is t r = radius_by t r r.power
 
 width_bound : (t : MeanTurns) (r : Multiples) → IsSmallRow r → half_of t r ≤ 2 ^ 65
 width_bound t r h =
-    let d = mul-le-mul (le_refl_n (unsigned_abs r.elongation)) t.elongation.narrow in
-    let m = mul-le-mul (le_refl_n (unsigned_abs r.sun_anomaly)) t.sun_anomaly.narrow in
-    let n = mul-le-mul (le_refl_n (unsigned_abs r.moon_anomaly)) t.moon_anomaly.narrow in
-    let f = mul-le-mul (le_refl_n (unsigned_abs r.latitude_argument)) t.latitude_argument.narrow in
+    let d = mul-le-mul (le_refl_n (unsigned_abs r.elongation)) t.elongation.half.small in
+    let m = mul-le-mul (le_refl_n (unsigned_abs r.sun_anomaly)) t.sun_anomaly.half.small in
+    let n = mul-le-mul (le_refl_n (unsigned_abs r.moon_anomaly)) t.moon_anomaly.half.small in
+    let f = mul-le-mul (le_refl_n (unsigned_abs r.latitude_argument)) t.latitude_argument.half.small in
     omega (arith, d, m, n, f, h.few)
   where
     le_refl_n : (a : ℕ) → a ≤ a
@@ -387,7 +389,7 @@ row_holds w u t r x turn z s q y deep all small h k l v e =
     let powered = power_within w t r.power k.factor periodic_term s q m small.power h.greatest h.least l v k.first
     k.second there
     in
-    let n = t.factors.greatest * m + width_of t r.power * 2 ^ 37 in
+    let n = t.factors.greatest.0 * m + width_of t r.power * 2 ^ 37 in
     let sized = sized_within u r.size (pos (2 ^ 37) *ℤ q) n (value w (times_power k.factor r.power periodic_term))
     (value_proper w
     (times_power k.factor r.power periodic_term)) powered in
@@ -404,7 +406,7 @@ term_most w (suc q) x = all_cosines_hold w.depth (value w x) _ _ (value_proper w
 -- the greatest factor of a power
 abbrev top_of : MeanFactors → ℕ → ℕ
 top_of f zero = 2 ^ 37
-top_of f (suc k) = f.greatest
+top_of f (suc k) = f.greatest.0
 
 plain_most : (i : Interval) → i ⊆ between (units_of_56 (pos 0 -ℤ pos (2 ^ 56))) (units_of_56 (pos 0 +ℤ pos (2 ^ 56)))
     → i ⊆ around_93 0 (pos 0) (2 ^ 37 * 2 ^ 56)
@@ -434,17 +436,18 @@ powered_most f h g i j p q a b k m =
     (omega (arith, ints, b)) (pos_nonneg h)))
 
 power_most : (w : World) (f : MeanFactors) (k : ℕ) (factor x : Expression) → k ≤ 2
-    → (k ≡ 1 → IsFactor f.first f.wide (value w factor))
-    → (k ≡ 2 → IsFactor f.second f.wide (value w (power factor 2)))
+    → (k ≡ 1 → IsFactor f.first.0 f.wide.0 (value w factor))
+    → (k ≡ 2 → IsFactor f.second.0 f.wide.0 (value w (power factor 2)))
     → value w x ⊆ between (units_of_56 (pos 0 -ℤ pos (2 ^ 56))) (units_of_56 (pos 0 +ℤ pos (2 ^ 56)))
     → value w (times_power factor k x) ⊆ around_93 0 (pos 0) (top_of f k * 2 ^ 56)
 unfolding value times_power
 power_most w f zero factor x few p q h = plain_most (value w x) h
 power_most w f (suc zero) factor x few p q h =
-    powered_most f.first f.wide f.greatest (value w factor) (value w x) (value_proper w factor) (value_proper w x)
+    powered_most f.first.0 f.wide.0 f.greatest.0 (value w factor) (value w x) (value_proper w factor) (value_proper w x)
     f.first_high f.first_low (p refl) h
 power_most w f (suc (suc zero)) factor x few p q h =
-    powered_most f.second f.wide f.greatest (value w (power factor 2)) (value w x) (value_proper w (power factor 2))
+    powered_most f.second.0 f.wide.0 f.greatest.0 (value w (power factor 2)) (value w x)
+    (value_proper w (power factor 2))
     (value_proper w x) f.second_high
     f.second_low (q refl) h
 power_most w f (suc (suc (suc k))) factor x few p q h = absurd (omega (arith, few))
@@ -463,10 +466,11 @@ with_power a g d h = rw h (nat_eq _ _ (ring (pos a ∷ pos d ∷ [])
     at 0 ⊗ at 1) ⊗ lit (pos (2 ^ 56))) refl))
 
 most_by : (f : MeanFactors) (z : ℤ) (k : ℕ)
-    → unsigned_abs z * (top_of f k * 2 ^ 56) ≡ (unsigned_abs z * 2 ^ 37 + powered_of z k * (f.greatest - 2 ^ 37)) * 2
+    → unsigned_abs z * (top_of f k * 2 ^ 56) ≡ (unsigned_abs z * 2 ^ 37 + powered_of z k * (f.greatest.0 - 2 ^ 37)) * 2
     ^ 56
-most_by f z zero = without_power (unsigned_abs z) (f.greatest - 2 ^ 37)
-most_by f z (suc k) = with_power (unsigned_abs z) f.greatest (f.greatest - 2 ^ 37) (more_than_one f.greatest f.least)
+most_by f z zero = without_power (unsigned_abs z) (f.greatest.0 - 2 ^ 37)
+most_by f z (suc k) = with_power (unsigned_abs z) f.greatest.0 (f.greatest.0 - 2 ^ 37)
+    (more_than_one f.greatest.0 f.least)
 
 most_is : (f : MeanFactors) (r : Multiples) → unsigned_abs r.size * (top_of f r.power * 2 ^ 56) ≡ most_of f (sums_of r)
 most_is f r = most_by f r.size r.power

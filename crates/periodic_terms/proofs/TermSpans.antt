@@ -99,10 +99,11 @@ spread_less : (s : RowSums) (t : MeanTurns) (v : ℕ) → AreTurnsWithin v t
     + 11 * s.sizes
 spread_less s t v h =
     let x = (v + 2 ^ 11) / 29184 + 1 in
-    let d = mul-le-mul (same s.elongation) (half_less t.elongation.half v h.elongation.narrow) in
-    let m = mul-le-mul (same s.sun_anomaly) (half_less t.sun_anomaly.half v h.sun_anomaly.narrow) in
-    let n = mul-le-mul (same s.moon_anomaly) (half_less t.moon_anomaly.half v h.moon_anomaly.narrow) in
-    let f = mul-le-mul (same s.latitude_argument) (half_less t.latitude_argument.half v h.latitude_argument.narrow) in
+    let d = mul-le-mul (same s.elongation) (half_less t.elongation.half.count v h.elongation.narrow) in
+    let m = mul-le-mul (same s.sun_anomaly) (half_less t.sun_anomaly.half.count v h.sun_anomaly.narrow) in
+    let n = mul-le-mul (same s.moon_anomaly) (half_less t.moon_anomaly.half.count v h.moon_anomaly.narrow) in
+    let f = mul-le-mul (same s.latitude_argument)
+    (half_less t.latitude_argument.half.count v h.latitude_argument.narrow) in
     together_less (spread_by s.elongation t.elongation) (spread_by s.sun_anomaly t.sun_anomaly)
     (spread_by s.moon_anomaly t.moon_anomaly)
     (spread_by s.latitude_argument t.latitude_argument) (s.elongation * x) (s.sun_anomaly * x) (s.moon_anomaly * x)
@@ -132,9 +133,9 @@ factor_less p w h = mul-le-mul (same p) (small w h)
 
 pub radius_less : (s : RowSums) (t : MeanTurns) (v : ℕ) → AreTurnsWithin v t → 2 * radius_of t s ≤ wide_of s v
 radius_less s t v h =
-    twice (t.factors.greatest * _) (s.powered * ((t.factors.wide + 1) * 2 ^ 37)) _ s.powered
-    (five_quarters t.factors.greatest _ _ t.factors.small (spread_less s t v h))
-    (factor_less s.powered t.factors.wide h.factors)
+    twice (t.factors.greatest.0 * _) (s.powered * ((t.factors.wide.0 + 1) * 2 ^ 37)) _ s.powered
+    (five_quarters t.factors.greatest.0 _ _ t.factors.small (spread_less s t v h))
+    (factor_less s.powered t.factors.wide.0 h.factors)
   where
     twice : (a b n p : ℕ) → a ≤ 5 * 2 ^ 35 * n → b ≤ p * 2 ^ 56 → 2 * (a + b) ≤ 5 * 2 ^ 36 * n + p * 2 ^ 57
     twice a b n p h k = omega (arith, h, k)
@@ -159,8 +160,8 @@ greatest_cut hi m q n e f = omega (arith, ints, clamps, e, f)
 -- ---- no sum is further out than its sizes, with a quarter of those that have a power
 pub most_less : (f : MeanFactors) (s : RowSums) → most_of f s ≤ (s.sizes * 2 ^ 37 + s.powered * 2 ^ 35) * 2 ^ 56
 most_less f s =
-    added (s.sizes * 2 ^ 37) (s.powered * (f.greatest - 2 ^ 37)) (s.powered * 2 ^ 35)
-    (mul-le-mul (same s.powered) (over f.greatest f.small))
+    added (s.sizes * 2 ^ 37) (s.powered * (f.greatest.0 - 2 ^ 37)) (s.powered * 2 ^ 35)
+    (mul-le-mul (same s.powered) (over f.greatest.0 f.small))
   where
     same : (a : ℕ) → a ≤ a
     same a = omega arith

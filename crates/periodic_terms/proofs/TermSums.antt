@@ -55,9 +55,10 @@ nat_eq m n h = omega (arith, ints, h)
 
 radius_added : (t : MeanTurns) (a b : RowSums) → radius_of t (together a b) ≡ radius_of t a + radius_of t b
 radius_added t a b =
-    nat_eq _ _ (ring (pos t.factors.greatest ∷ pos (t.elongation.half / 1824 + 1) ∷ pos (t.sun_anomaly.half / 1824 + 1)
-    ∷ pos (t.moon_anomaly.half / 1824 + 1) ∷ pos (t.latitude_argument.half / 1824 + 1)
-    ∷ pos ((t.factors.wide + 1) * 2 ^ 37)
+    nat_eq _ _ (ring (pos t.factors.greatest.0 ∷ pos (t.elongation.half.count / 1824 + 1)
+    ∷ pos (t.sun_anomaly.half.count / 1824 + 1)
+    ∷ pos (t.moon_anomaly.half.count / 1824 + 1) ∷ pos (t.latitude_argument.half.count / 1824 + 1)
+    ∷ pos ((t.factors.wide.0 + 1) * 2 ^ 37)
     ∷ pos a.elongation ∷ pos a.sun_anomaly ∷ pos a.moon_anomaly ∷ pos a.latitude_argument ∷ pos a.sizes ∷ pos a.powered
     ∷ pos b.elongation ∷ pos b.sun_anomaly ∷ pos b.moon_anomaly ∷ pos b.latitude_argument ∷ pos b.sizes ∷ pos b.powered
     ∷ [])
@@ -72,7 +73,7 @@ none_of t = omega arith
 
 most_added : (f : MeanFactors) (a b : RowSums) → most_of f (together a b) ≡ most_of f a + most_of f b
 most_added f a b =
-    nat_eq _ _ (ring (pos (f.greatest - 2 ^ 37) ∷ pos a.sizes ∷ pos a.powered ∷ pos b.sizes ∷ pos b.powered ∷ [])
+    nat_eq _ _ (ring (pos (f.greatest.0 - 2 ^ 37) ∷ pos a.sizes ∷ pos a.powered ∷ pos b.sizes ∷ pos b.powered ∷ [])
     (((at 1 ⊕ at 3) ⊗ lit (pos (2 ^ 37)) ⊕ (at 2 ⊕ at 4) ⊗ at 0) ⊗ lit (pos (2 ^ 56)))
     ((at 1 ⊗ lit (pos (2 ^ 37)) ⊕ at 2 ⊗ at 0) ⊗ lit (pos (2 ^ 56)) ⊕ (at 3 ⊗ lit (pos (2 ^ 37)) ⊕ at 4 ⊗ at 0) ⊗ lit
     (pos (2 ^ 56))) refl)

@@ -20,7 +20,7 @@ pub record IsNearTurn (t : ℤ) (w : ℕ) (i : Interval) : Type 0 where
 
 -- an angle lies near its turn, where that is known
 abbrev pub IsTurn : MeanTurn → Interval → Type 0
-IsTurn a i = a.known ≡ true → IsNearTurn (pos a.turn) a.half i
+IsTurn a i = a.known ≡ true → IsNearTurn (pos a.turn.0) a.half.count i
 
 -- an interval lies within h of f, both in units of 2^-56
 abbrev pub IsFactor : ℕ → ℕ → Interval → Type 0

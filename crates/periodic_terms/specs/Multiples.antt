@@ -20,8 +20,8 @@ in_93 u z = record { num = z; below = below_product (2 ^ 93 - 1) u }
 -- the factor's power by which a row is multiplied, in 2^-56
 abbrev pub factor_of : MeanFactors → ℕ → ℕ
 factor_of f zero = 2 ^ 56
-factor_of f (suc zero) = f.first
-factor_of f (suc (suc k)) = f.second
+factor_of f (suc zero) = f.first.0
+factor_of f (suc (suc k)) = f.second.0
 
 -- what lies within e of a number, in 2^-93 of a part of u + 1
 abbrev pub around_93 : ℕ → ℤ → ℕ → Interval
@@ -42,15 +42,15 @@ pub record IsSmallRow (r : Multiples) : Type 0 where
 -- the sum of the angles that a row takes, in units of 2^-64 turns, and how far that may be off, in 2^-61 degrees
 abbrev pub multiples_of : MeanTurns → Multiples → ℤ
 multiples_of t r =
-    ((r.elongation *ℤ pos t.elongation.turn +ℤ r.sun_anomaly *ℤ pos t.sun_anomaly.turn)
-    +ℤ r.moon_anomaly *ℤ pos t.moon_anomaly.turn)
-    +ℤ r.latitude_argument *ℤ pos t.latitude_argument.turn
+    ((r.elongation *ℤ pos t.elongation.turn.0 +ℤ r.sun_anomaly *ℤ pos t.sun_anomaly.turn.0)
+    +ℤ r.moon_anomaly *ℤ pos t.moon_anomaly.turn.0)
+    +ℤ r.latitude_argument *ℤ pos t.latitude_argument.turn.0
 
 abbrev pub half_of : MeanTurns → Multiples → ℕ
 half_of t r =
-    ((unsigned_abs r.elongation * t.elongation.half + unsigned_abs r.sun_anomaly * t.sun_anomaly.half)
-    + unsigned_abs r.moon_anomaly * t.moon_anomaly.half)
-    + unsigned_abs r.latitude_argument * t.latitude_argument.half
+    ((unsigned_abs r.elongation * t.elongation.half.count + unsigned_abs r.sun_anomaly * t.sun_anomaly.half.count)
+    + unsigned_abs r.moon_anomaly * t.moon_anomaly.half.count)
+    + unsigned_abs r.latitude_argument * t.latitude_argument.half.count
 
 -- the angle of a row: so many quarters of a turn later
 abbrev pub turns_of : MeanTurns → Multiples → ℤ
@@ -76,8 +76,8 @@ pub record IsTerm (w : World) (u : ℕ) (t : MeanTurns) (r : Multiples) (x : Exp
   pub is : x ≡ scale (record { num = r.size; below = u })
       (times_power factor r.power (periodic_term_of r.quarters angle))
   pub near : AreKnown t → IsNearTurn (multiples_of t r) (half_of t r) (value w angle)
-  pub first : r.power ≡ 1 → IsFactor t.factors.first t.factors.wide (value w factor)
-  pub second : r.power ≡ 2 → IsFactor t.factors.second t.factors.wide (value w (power factor 2))
+  pub first : r.power ≡ 1 → IsFactor t.factors.first.0 t.factors.wide.0 (value w factor)
+  pub second : r.power ≡ 2 → IsFactor t.factors.second.0 t.factors.wide.0 (value w (power factor 2))
 
 -- the mean angles of the rows, as far as they are known, and the factor lie near these turns
 pub record AreTurns (w : World) (a : LunarAngles) (t : MeanTurns) : Type 0 where
@@ -85,8 +85,8 @@ pub record AreTurns (w : World) (a : LunarAngles) (t : MeanTurns) : Type 0 where
   pub sun_anomaly : IsTurn t.sun_anomaly (value w a.sun_anomaly)
   pub moon_anomaly : IsTurn t.moon_anomaly (value w a.moon_anomaly)
   pub latitude_argument : IsTurn t.latitude_argument (value w a.latitude_argument)
-  pub first : IsFactor t.factors.first t.factors.wide (value w a.eccentricity)
-  pub second : IsFactor t.factors.second t.factors.wide (value w (power a.eccentricity 2))
+  pub first : IsFactor t.factors.first.0 t.factors.wide.0 (value w a.eccentricity)
+  pub second : IsFactor t.factors.second.0 t.factors.wide.0 (value w (power a.eccentricity 2))
 
 -- the elongation and the moon's anomaly do, and something is known of the others, of which rows take nothing
 pub record AreTwoTurns (w : World) (a : LunarAngles) (t : MeanTurns) : Type 0 where
@@ -97,19 +97,19 @@ pub record AreTwoTurns (w : World) (a : LunarAngles) (t : MeanTurns) : Type 0 wh
 
 -- how far the sines of rows are off at most by an angle, in 2^-56, by how many times it is taken
 abbrev pub spread_by : ℕ → MeanTurn → ℕ
-spread_by reach a = reach * (a.half / 1824 + 1)
+spread_by reach a = reach * (a.half.count / 1824 + 1)
 
 -- how far a sum is off at most, in 2^-93: by the sizes times the angles of the rows, the sizes, and those of rows with
 -- a power
 abbrev pub radius_of : MeanTurns → RowSums → ℕ
 radius_of t s =
-    t.factors.greatest * (spread_by s.elongation t.elongation + spread_by s.sun_anomaly t.sun_anomaly
+    t.factors.greatest.0 * (spread_by s.elongation t.elongation + spread_by s.sun_anomaly t.sun_anomaly
     + spread_by s.moon_anomaly t.moon_anomaly
-    + spread_by s.latitude_argument t.latitude_argument + 11 * s.sizes) + s.powered * ((t.factors.wide + 1) * 2 ^ 37)
+    + spread_by s.latitude_argument t.latitude_argument + 11 * s.sizes) + s.powered * ((t.factors.wide.0 + 1) * 2 ^ 37)
 
 -- no sum is further from 0, in 2^-93: the sizes, and those of rows with a power times what the factor is above 1
 abbrev pub most_of : MeanFactors → RowSums → ℕ
-most_of f s = (s.sizes * 2 ^ 37 + s.powered * (f.greatest - 2 ^ 37)) * 2 ^ 56
+most_of f s = (s.sizes * 2 ^ 37 + s.powered * (f.greatest.0 - 2 ^ 37)) * 2 ^ 56
 
 -- the size of a row that has a power, and 0 of one that has none
 abbrev pub powered_of : (size : ℤ) → ℕ → ℕ

@@ -45,10 +45,10 @@ degrees_of t = (t - t / 2 ^ 61 * 2 ^ 61) * 45 / 32
 -- down. A turn a day is 8 * 16436250000000 of a rate, so that 2^-80 turns are that over 2^77
 pub record IsTurning (v : PeriodicTerm) (t : TurningTerm) : Type 0 where
   pub size : t.size ≡ v.size
-  pub phase_below : (pos t.phase *ℤ pos 3600000000) ≤ℤ (v.phase *ℤ pos (2 ^ 64))
-  pub phase_close : (v.phase *ℤ pos (2 ^ 64)) ≤ℤ (pos t.phase *ℤ pos 3600000000 +ℤ pos 3600000000)
-  pub rate_below : (t.rate *ℤ pos 16436250000000) ≤ℤ (v.rate *ℤ pos (2 ^ 77))
-  pub rate_close : (v.rate *ℤ pos (2 ^ 77)) ≤ℤ (t.rate *ℤ pos 16436250000000 +ℤ pos 16436250000000)
+  pub phase_below : (pos t.phase.0 *ℤ pos 3600000000) ≤ℤ (v.phase *ℤ pos (2 ^ 64))
+  pub phase_close : (v.phase *ℤ pos (2 ^ 64)) ≤ℤ (pos t.phase.0 *ℤ pos 3600000000 +ℤ pos 3600000000)
+  pub rate_below : (t.rate.0 *ℤ pos 16436250000000) ≤ℤ (v.rate *ℤ pos (2 ^ 77))
+  pub rate_close : (v.rate *ℤ pos (2 ^ 77)) ≤ℤ (t.rate.0 *ℤ pos 16436250000000 +ℤ pos 16436250000000)
 
 -- the same of all rows of two tables
 pub record AreTurning (vs : List PeriodicTerm) (ts : List TurningTerm) : Type 0 where

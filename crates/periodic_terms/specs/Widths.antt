@@ -11,7 +11,7 @@ use Rattle.periodic_terms.specs.declared.term_sums.RowSums.{RowSums}
 -- a turn is known, and as far off as an angle of width v makes it: by half of that, and the rounding of the middle
 pub record IsTurnWithin (a : MeanTurn) (v : ℕ) : Type 0 where
   pub known : a.known ≡ true
-  pub narrow : a.half * 16 ≤ v + 2 ^ 11
+  pub narrow : a.half.count * 16 ≤ v + 2 ^ 11
 
 -- endpoints of the factor or its square, in units of 2^-56: from 1/4 to 39/32, and 2^-38 apart
 pub record IsFactorSpan (lo hi : ℤ) : Type 0 where
@@ -25,9 +25,9 @@ IsFactorWithin i = IsWithin (pos (2 ^ 30)) (pos (39 * 2 ^ 27)) (2 ^ 26) i
 
 -- such a factor
 pub record IsUsualFactor (f : MeanFactor) : Type 0 where
-  pub least : 2 ^ 18 ≤ f.middle
-  pub greatest : f.middle ≤ 39 * 2 ^ 51
-  pub narrow : f.wide ≤ 2 ^ 18
+  pub least : 2 ^ 18 ≤ f.middle.0
+  pub greatest : f.middle.0 ≤ 39 * 2 ^ 51
+  pub narrow : f.wide.0 ≤ 2 ^ 18
 
 -- the factor of the eccentricity, from 3/4 to 35/32 and at most 2^-40 wide, so that its square is such a one too
 abbrev pub IsUsualEccentricity : Interval → Type 0
@@ -47,7 +47,7 @@ pub record AreTurnsWithin (v : ℕ) (t : MeanTurns) : Type 0 where
   pub sun_anomaly : IsTurnWithin t.sun_anomaly v
   pub moon_anomaly : IsTurnWithin t.moon_anomaly v
   pub latitude_argument : IsTurnWithin t.latitude_argument v
-  pub factors : t.factors.wide ≤ 2 ^ 18
+  pub factors : t.factors.wide.0 ≤ 2 ^ 18
 
 -- how many times the sizes take an angle
 abbrev pub reach_of : RowSums → ℕ

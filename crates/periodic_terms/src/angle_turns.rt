@@ -17,118 +17,113 @@ ghost use Rattle.periodic_terms.specs.Multiples.{AreTurns, AreTwoTurns};
 ghost use Rattle.periodic_terms.specs.Widths.{AreClose, AreTurnsWithin, IsFactorSpan, IsFactorWithin, IsTurnWithin, IsUsualEccentricity, IsUsualFactor};
 
 use crate::mean::{MeanAngles, MeanFactor, MeanFactors, MeanTurn, MeanTurns};
-use crate::rows_by_time::low_64;
-use crate::term_rows::{ONE, UNIT};
+use crate::rows_by_time::reduced_turn;
+use crate::term_rows::ONE_37;
+use crate::units::{Degrees37, Degrees56, Degrees61, Factor37, Factor56, ManyTurns64, Turns64};
+use encl_core::parts::NATURAL_ONE;
 use encl_core::{Enclosure, Span, shr_floor};
 
-/// 2²⁵ degrees, in units of 2⁻⁵⁶: the fastest mean angle, of 483,202 degrees a century, goes 12.1 million from the year 2000 back to
-/// where the table of ΔT begins, 25 centuries before, and 2²⁵ are 33.5 million.
-const FAR: i128 = 1 << 81;
+/// 2²⁵ degrees, in 2⁻⁵⁶.
+const GREATEST_ANGLE_56: i128 = 1 << 81;
 
-/// 2¹⁷ turns, in units of 2⁻³⁷ degrees: more than 2²⁵ degrees.
-const WHOLE_TURNS: i128 = 45 << 57;
+/// 2¹⁷ turns, in 2⁻³⁷ degrees: more than 2²⁵ degrees.
+const WHOLE_TURNS_37: i128 = 45 << 57;
 
-/// 2 degrees, in units of 2⁻⁵⁶, and three of these less, for the roundings of the turn: 90 parts of 2⁻⁶¹ are less than three of 2⁻⁵⁶.
-const GREATEST_HALF: i128 = (1 << 57) - 3;
+/// 2 degrees, in 2⁻⁵⁶, and three of these less, for the roundings of the turn: 90 parts of 2⁻⁶¹ are less than three of 2⁻⁵⁶.
+const GREATEST_HALF_56: i128 = (1 << 57) - 3;
 
 /// How many parts of 2⁻⁵⁶ are one of 2⁻³⁷.
-const PARTS: i128 = 1 << 19;
+const PARTS_56_OF_37: i128 = 1 << 19;
 
 /// One less than that, by which a quotient is rounded up.
 const ROUND_UP: u64 = (1 << 19) - 1;
 
-/// 4, in units of 2⁻⁵⁶.
-const GREATEST_END: i128 = 1 << 58;
+/// 4, in 2⁻⁵⁶.
+const GREATEST_END_56: i128 = 1 << 58;
 
 /// How many parts of 2⁻⁶⁴ of a turn are 45 of 2⁻³⁷ degrees.
 const TURN_PARTS: u64 = 1 << 24;
 
-/// A turn, in 45 parts of 2⁻³⁷ degrees.
-const TURN: u64 = 1 << 40;
+/// How many times 45 parts of 2⁻³⁷ degrees a turn has.
+const TURN_37: u64 = 1 << 40;
 
 /// The middle of an interval of degrees, rounded down; `None` further than 2²⁵ degrees from 0.
 #[inline(always)]
-fn middle_of(span: Span) -> Option<i128>
-    ensures below { IfSome result (λ m. (m *ℤ pos 2) ≤ℤ (span.lo +ℤ span.hi)) }
-    ensures close { IfSome result (λ m. (span.lo +ℤ span.hi) <ℤ (m *ℤ pos 2 +ℤ pos 2)) }
-    ensures least { IfSome result (λ m. neg_ℤ (pos (2 ^ 81)) ≤ℤ m) }
-    ensures greatest { IfSome result (λ m. m ≤ℤ pos (2 ^ 81)) }
+fn middle_angle(span: Span) -> Option<Degrees56>
+    ensures below { IfSome result (λ m. (m.count *ℤ pos 2) ≤ℤ (span.lo +ℤ span.hi)) }
+    ensures close { IfSome result (λ m. (span.lo +ℤ span.hi) <ℤ (m.count *ℤ pos 2 +ℤ pos 2)) }
     ensures far { IfSome result (λ m. span.hi ≤ℤ pos (2 ^ 81)) }
     ensures some { neg_ℤ (pos (2 ^ 81)) ≤ℤ span.lo → span.hi ≤ℤ pos (2 ^ 81) → IsSome result }
 {
-    if span.lo < -FAR {
+    if span.lo < -GREATEST_ANGLE_56 {
         return None;
     }
-    if span.hi > FAR {
+    if span.hi > GREATEST_ANGLE_56 {
         return None;
     }
-    Some(shr_floor::<1>(span.lo + span.hi))
+    Some(Degrees56 {
+        count: shr_floor::<1>(span.lo + span.hi),
+    })
 }
 
-/// An angle in units of 2⁻³⁷ degrees and so many whole turns that it isn't negative.
+/// An angle and so many whole turns that it isn't negative, in 2⁻³⁷ degrees.
 #[inline(always)]
-fn shifted(middle: i64) -> u64
-    requires least { neg_ℤ (pos (2 ^ 62)) ≤ℤ middle }
-    requires greatest { middle ≤ℤ pos (2 ^ 62) }
-    ensures value { pos result ≡ middle +ℤ pos (45 * 2 ^ 57) }
+fn shifted(middle: Degrees37) -> u64
+    ensures value { pos result ≡ middle.count +ℤ pos (45 * 2 ^ 57) }
 {
-    (i128::from(middle) + WHOLE_TURNS) as u64
+    (i128::from(middle.count) + WHOLE_TURNS_37) as u64
 }
 
-/// An angle in units of 2⁻³⁷ degrees as one in units of 2⁻⁶⁴ turns, rounded down; whole turns are left out. A unit is 2²⁴ / 45 of
-/// these, and 2⁴⁰ times 45 units are a turn.
+/// An angle in 2⁻³⁷ degrees as a turn, rounded down; whole turns are left out. A unit is 2²⁴ / 45 of 2⁻⁶⁴ turns, and 2⁴⁰ times 45 units
+/// are a turn.
 #[inline(always)]
-fn wide_turn_at(middle: i64) -> u64
-    requires least { neg_ℤ (pos (2 ^ 62)) ≤ℤ middle }
-    requires greatest { middle ≤ℤ pos (2 ^ 62) }
-    ensures turn { IsWideTurnAt result middle }
+fn coarse_turn(middle: Degrees37) -> Turns64
+    ensures turn { IsWideTurnAt result.0 middle.count }
 {
     let angle = shifted(middle);
     let whole = angle / 45;
     let rest = angle - whole * 45;
-    let part = whole - (whole >> 40) * TURN;
-    part * TURN_PARTS + rest * TURN_PARTS / 45
+    let part = whole - (whole >> 40) * TURN_37;
+    Turns64(part * TURN_PARTS + rest * TURN_PARTS / 45)
 }
 
-/// What a part of 2⁻³⁷ degrees, in units of 2⁻⁵⁶, adds to a turn, in 2⁻⁶⁴ turns, rounded down.
+/// What a part of 2⁻³⁷ degrees, in 2⁻⁵⁶, adds to a turn, rounded down.
 #[inline(always)]
-fn rest_of_turn(rest: u64) -> u64
+fn rest_of_turn(rest: u64) -> Turns64
     requires few { rest < 2 ^ 19 }
-    ensures below { result * 45 ≤ rest * 32 }
-    ensures close { rest * 32 < result * 45 + 45 }
+    ensures below { result.0 * 45 ≤ rest * 32 }
+    ensures close { rest * 32 < result.0 * 45 + 45 }
 {
-    rest * 32 / 45
+    Turns64(rest * 32 / 45)
 }
 
-/// An angle in units of 2⁻⁵⁶ degrees as one in units of 2⁻⁶⁴ turns, rounded down twice; whole turns are left out.
+/// An angle as a turn, rounded down twice; whole turns are left out.
 #[inline(always)]
-fn turn_at(middle: i128) -> u64
-    requires least { neg_ℤ (pos (2 ^ 81)) ≤ℤ middle }
-    requires greatest { middle ≤ℤ pos (2 ^ 81) }
-    ensures turn { IsTurnAt result middle }
+fn fine_turn(middle: Degrees56) -> Turns64
+    ensures turn { IsTurnAt result.0 middle.count }
 {
-    let wide = shr_floor::<19>(middle);
-    let rest = (middle - wide * PARTS) as u64;
-    low_64(i128::from(wide_turn_at(wide as i64)) + i128::from(rest_of_turn(rest)))
+    let wide = shr_floor::<19>(middle.count);
+    let rest = (middle.count - wide * PARTS_56_OF_37) as u64;
+    let coarse = coarse_turn(Degrees37 { count: wide as i64 });
+    reduced_turn(ManyTurns64(i128::from(coarse.0) + i128::from(rest_of_turn(rest).0)))
 }
 
-/// How far the endpoints of a span are from its middle, in 2⁻⁶¹ degrees, with the roundings of its turn; `None` for more than 2
-/// degrees.
+/// How far the endpoints of a span, of which the upper one is in 2⁻⁵⁶ degrees, are from its middle, with the roundings of its turn; `None`
+/// for more than 2 degrees.
 #[inline(always)]
-fn half_around(hi: i128, middle: i128) -> Option<u64>
-    requires least { neg_ℤ (pos (2 ^ 81)) ≤ℤ middle }
-    requires greatest { middle ≤ℤ pos (2 ^ 81) }
+fn half_around(hi: i128, middle: Degrees56) -> Option<Degrees61>
     requires far { hi ≤ℤ pos (2 ^ 81) }
-    requires above { middle ≤ℤ hi }
-    ensures value { IfSome result (λ w. pos w ≡ (hi -ℤ middle) *ℤ pos 32 +ℤ pos 90) }
-    ensures narrow { IfSome result (λ w. w ≤ 2 ^ 62) }
-    ensures some { (hi -ℤ middle) ≤ℤ pos (2 ^ 57 - 3) → IsSome result }
+    requires above { middle.count ≤ℤ hi }
+    ensures value { IfSome result (λ w. pos w.count ≡ (hi -ℤ middle.count) *ℤ pos 32 +ℤ pos 90) }
+    ensures some { (hi -ℤ middle.count) ≤ℤ pos (2 ^ 57 - 3) → IsSome result }
 {
-    let after = hi - middle;
-    if after > GREATEST_HALF {
+    let after = hi - middle.count;
+    if after > GREATEST_HALF_56 {
         return None;
     }
-    Some((after * 32 + 90) as u64)
+    Some(Degrees61 {
+        count: (after * 32 + 90) as u64,
+    })
 }
 
 /// An interval of degrees as a turn; `None` over more than 2 degrees on a side, or further than 2²⁵ degrees from 0.
@@ -136,40 +131,38 @@ fn half_around(hi: i128, middle: i128) -> Option<u64>
 fn turn_of_span(span: Span) -> Option<MeanTurn>
     ensures near { IfSome result (λ t. (i : Interval)
         → i ⊆ between (units_of_56 span.lo) (units_of_56 span.hi)
-        → IsNearTurn (pos t.turn) t.half i) }
+        → IsNearTurn (pos t.turn.0) t.half.count i) }
     ensures narrow { (v : ℕ) → v ≤ 2 ^ 65 → neg_ℤ (pos (2 ^ 81)) ≤ℤ span.lo → span.hi ≤ℤ pos (2 ^ 81)
         → ((span.hi -ℤ span.lo) *ℤ pos 256) ≤ℤ pos v → IsSomeAnd result (λ t. IsTurnWithin t v) }
 {
-    let middle = middle_of(span)?;
+    let middle = middle_angle(span)?;
     let half = half_around(span.hi, middle)?;
     Some(MeanTurn {
-        turn: turn_at(middle),
+        turn: fine_turn(middle),
         half,
         known: true,
     })
 }
 
-/// A factor by its endpoints, in units of 2⁻⁵⁶.
+/// A factor by its endpoints, in 2⁻⁵⁶.
 #[inline(always)]
 fn factor_between(lo: u64, hi: u64) -> MeanFactor
     requires ordered { lo ≤ hi }
     requires far { hi ≤ 2 ^ 58 }
-    ensures low { result.middle ≤ lo + result.wide }
-    ensures high { hi ≤ result.middle + result.wide }
-    ensures small { result.middle ≤ 2 ^ 58 }
-    ensures narrow { result.wide ≤ 2 ^ 58 }
+    ensures low { result.middle.0 ≤ lo + result.wide.0 }
+    ensures high { hi ≤ result.middle.0 + result.wide.0 }
     ensures usual { IsFactorSpan (pos lo) (pos hi) → IsUsualFactor result }
 {
     let middle = lo + hi >> 1;
     MeanFactor {
-        middle,
-        wide: hi - middle,
+        middle: Factor56(middle),
+        wide: Factor56(hi - middle),
     }
 }
 
-/// An endpoint in 64 bits.
+/// An endpoint of a factor in 64 bits.
 #[inline(always)]
-fn end_of(end: i128) -> u64
+fn factor_end(end: i128) -> u64
     requires from { pos 0 ≤ℤ end }
     requires to { end ≤ℤ pos (2 ^ 58) }
     ensures value { pos result ≡ end }
@@ -180,28 +173,24 @@ fn end_of(end: i128) -> u64
 /// A span from 0 to 4 as a factor.
 #[inline(always)]
 fn factor_of_span(span: Span) -> Option<MeanFactor>
-    ensures low { IfSome result (λ f. (pos f.middle -ℤ pos f.wide) ≤ℤ span.lo) }
-    ensures high { IfSome result (λ f. span.hi ≤ℤ (pos f.middle +ℤ pos f.wide)) }
-    ensures small { IfSome result (λ f. f.middle ≤ 2 ^ 58) }
-    ensures narrow { IfSome result (λ f. f.wide ≤ 2 ^ 58) }
+    ensures low { IfSome result (λ f. (pos f.middle.0 -ℤ pos f.wide.0) ≤ℤ span.lo) }
+    ensures high { IfSome result (λ f. span.hi ≤ℤ (pos f.middle.0 +ℤ pos f.wide.0)) }
     ensures some { IsFactorSpan span.lo span.hi → IsSomeAnd result IsUsualFactor }
 {
     if span.lo < 0 {
         return None;
     }
-    if span.hi > GREATEST_END {
+    if span.hi > GREATEST_END_56 {
         return None;
     }
-    Some(factor_between(end_of(span.lo), end_of(span.hi)))
+    Some(factor_between(factor_end(span.lo), factor_end(span.hi)))
 }
 
 /// A factor from 0 to 4; `None` where it isn't known.
 #[inline(always)]
-fn factor_of<E: Enclosure>(factor: E) -> Option<MeanFactor>
+fn known_factor<E: Enclosure>(factor: E) -> Option<MeanFactor>
     ensures near { IfSome result (λ f. (w : World) (x : Expression) → Within E.shown w x factor
-        → IsFactor f.middle f.wide (value w x)) }
-    ensures small { IfSome result (λ f. f.middle ≤ 2 ^ 58) }
-    ensures narrow { IfSome result (λ f. f.wide ≤ 2 ^ 58) }
+        → IsFactor f.middle.0 f.wide.0 (value w x)) }
     ensures some { IsFactorWithin (E.shown factor) → IsSomeAnd result IsUsualFactor }
 {
     let span = factor.span()?;
@@ -210,9 +199,9 @@ fn factor_of<E: Enclosure>(factor: E) -> Option<MeanFactor>
 
 /// An angle as a turn; `None` where it isn't known, or not closely.
 #[inline(always)]
-fn found_turn<E: Enclosure>(angle: E) -> Option<MeanTurn>
+fn known_turn<E: Enclosure>(angle: E) -> Option<MeanTurn>
     ensures near { IfSome result (λ t. (w : World) (x : Expression) → Within E.shown w x angle
-        → IsNearTurn (pos t.turn) t.half (value w x)) }
+        → IsNearTurn (pos t.turn.0) t.half.count (value w x)) }
     ensures narrow { (v : ℕ) → v ≤ 2 ^ 65 → IsAbout (2 ^ 57) v (E.shown angle)
         → IsSomeAnd result (λ t. IsTurnWithin t v) }
 {
@@ -222,27 +211,27 @@ fn found_turn<E: Enclosure>(angle: E) -> Option<MeanTurn>
 
 /// The turn of an angle that isn't known well enough.
 const UNKNOWN: MeanTurn = MeanTurn {
-    turn: 0,
-    half: 0,
+    turn: Turns64(0),
+    half: Degrees61 { count: 0 },
     known: false,
 };
 
 /// An angle as a turn: known where it is within 2 degrees, and no further than 2²⁵ degrees from 0.
 #[inline(always)]
-fn turn_of<E: Enclosure>(angle: E) -> MeanTurn
+fn mean_turn<E: Enclosure>(angle: E) -> MeanTurn
     ensures near { (w : World) (x : Expression) → Within E.shown w x angle
         → IsTurn result (value w x) }
     ensures narrow { (v : ℕ) → v ≤ 2 ^ 65 → IsAbout (2 ^ 57) v (E.shown angle)
         → IsTurnWithin result v }
 {
-    match found_turn(angle) {
+    match known_turn(angle) {
         Some(turn) => turn,
         None => UNKNOWN,
     }
 }
 
-/// 5 / 4, in units of 2⁻³⁷.
-const GREATEST_FACTOR: u64 = 5 << 35;
+/// 5 / 4, in 2⁻³⁷.
+const GREATEST_FACTOR_37: u64 = 5 << 35;
 
 /// The greater of two numbers.
 #[inline(always)]
@@ -267,49 +256,45 @@ fn ceil_19(number: u64) -> u64
 /// A factor and its square together; `None` where one may be negative or more than 5 / 4.
 #[inline(always)]
 fn both_factors(first: MeanFactor, second: MeanFactor) -> Option<MeanFactors>
-    requires first { first.middle ≤ 2 ^ 58 }
-    requires second { second.middle ≤ 2 ^ 58 }
-    requires first_narrow { first.wide ≤ 2 ^ 58 }
-    requires second_narrow { second.wide ≤ 2 ^ 58 }
-    ensures first { IfSome result (λ f. f.first ≡ first.middle) }
-    ensures second { IfSome result (λ f. f.second ≡ second.middle) }
-    ensures first_wide { IfSome result (λ f. first.wide ≤ f.wide) }
-    ensures second_wide { IfSome result (λ f. second.wide ≤ f.wide) }
+    ensures first { IfSome result (λ f. f.first.0 ≡ first.middle.0) }
+    ensures second { IfSome result (λ f. f.second.0 ≡ second.middle.0) }
+    ensures first_wide { IfSome result (λ f. first.wide.0 ≤ f.wide.0) }
+    ensures second_wide { IfSome result (λ f. second.wide.0 ≤ f.wide.0) }
     ensures some { IsUsualFactor first → IsUsualFactor second
-        → IsSomeAnd result (λ f. f.wide ≤ 2 ^ 18) }
+        → IsSomeAnd result (λ f. f.wide.0 ≤ 2 ^ 18) }
 {
-    let wide = greater_of(first.wide, second.wide);
-    let top = greater_of(first.middle, second.middle) + wide;
-    let greatest = greater_of(ONE, ceil_19(top));
-    if first.middle < wide {
+    let wide = greater_of(first.wide.0, second.wide.0);
+    let top = greater_of(first.middle.0, second.middle.0) + wide;
+    let greatest = greater_of(ONE_37, ceil_19(top));
+    if first.middle.0 < wide {
         return None;
     }
-    if second.middle < wide {
+    if second.middle.0 < wide {
         return None;
     }
-    if greatest > GREATEST_FACTOR {
+    if greatest > GREATEST_FACTOR_37 {
         return None;
     }
     Some(MeanFactors {
         first: first.middle,
         second: second.middle,
-        wide,
-        greatest,
+        wide: Factor56(wide),
+        greatest: Factor37(greatest),
     })
 }
 
 /// A factor and its square; `None` where one isn't known, or may be negative or more than 5 / 4.
 #[inline(always)]
-fn factors_of<E: Enclosure>(factor: E) -> Option<MeanFactors>
+fn known_factors<E: Enclosure>(factor: E) -> Option<MeanFactors>
     ensures first { IfSome result (λ f. (w : World) (x : Expression) → Within E.shown w x factor
-        → IsFactor f.first f.wide (value w x)) }
+        → IsFactor f.first.0 f.wide.0 (value w x)) }
     ensures second { IfSome result (λ f. (w : World) (x : Expression) → Within E.shown w x factor
-        → IsFactor f.second f.wide (value w (power x 2))) }
+        → IsFactor f.second.0 f.wide.0 (value w (power x 2))) }
     ensures some { E.BITS ≡ 56 → IsUsualEccentricity (E.shown factor)
-        → IsSomeAnd result (λ f. f.wide ≤ 2 ^ 18) }
+        → IsSomeAnd result (λ f. f.wide.0 ≤ 2 ^ 18) }
 {
-    let first = factor_of(factor)?;
-    let second = factor_of(factor.square())?;
+    let first = known_factor(factor)?;
+    let second = known_factor(factor.square())?;
     both_factors(first, second)
 }
 
@@ -321,12 +306,12 @@ pub(crate) fn mean_turns<E: Enclosure>(angles: MeanAngles<E>) -> Option<MeanTurn
     ensures narrow { (v : ℕ) → E.BITS ≡ 56 → v ≤ 2 ^ 65 → AreClose E.shown v angles
         → IsSomeAnd result (AreTurnsWithin v) }
 {
-    let factors = factors_of(angles.eccentricity)?;
+    let factors = known_factors(angles.eccentricity)?;
     Some(MeanTurns {
-        elongation: turn_of(angles.elongation),
-        sun_anomaly: turn_of(angles.sun_anomaly),
-        moon_anomaly: turn_of(angles.moon_anomaly),
-        latitude_argument: turn_of(angles.latitude_argument),
+        elongation: mean_turn(angles.elongation),
+        sun_anomaly: mean_turn(angles.sun_anomaly),
+        moon_anomaly: mean_turn(angles.moon_anomaly),
+        latitude_argument: mean_turn(angles.latitude_argument),
         factors,
     })
 }
@@ -350,8 +335,8 @@ fn unused_turn<E: Enclosure>(angle: E) -> MeanTurn
         → result.known ≡ true → IsKnown (value w x) }
 {
     MeanTurn {
-        turn: 0,
-        half: 0,
+        turn: Turns64(0),
+        half: Degrees61 { count: 0 },
         known: is_known(angle),
     }
 }
@@ -360,10 +345,10 @@ fn unused_turn<E: Enclosure>(angle: E) -> MeanTurn
 #[inline(always)]
 fn unused_factors() -> MeanFactors {
     MeanFactors {
-        first: UNIT,
-        second: UNIT,
-        wide: 0,
-        greatest: ONE,
+        first: Factor56(NATURAL_ONE),
+        second: Factor56(NATURAL_ONE),
+        wide: Factor56(0),
+        greatest: Factor37(ONE_37),
     }
 }
 
@@ -374,9 +359,9 @@ pub(crate) fn two_turns<E: Enclosure>(angles: MeanAngles<E>) -> MeanTurns
         → AreTwoTurns w a result }
 {
     MeanTurns {
-        elongation: turn_of(angles.elongation),
+        elongation: mean_turn(angles.elongation),
         sun_anomaly: unused_turn(angles.sun_anomaly),
-        moon_anomaly: turn_of(angles.moon_anomaly),
+        moon_anomaly: mean_turn(angles.moon_anomaly),
         latitude_argument: unused_turn(angles.latitude_argument),
         factors: unused_factors(),
     }

@@ -7,8 +7,8 @@
 //! The terms of the sun and of the planets go by the days: each has a phase and a rate.
 //!
 //! - `sum_of_periodic_terms`: the sum of the rows of a table over days as an enclosure of any kind, and `sum_over` over a span of days;
-//! - `TurningTerm`: a row by turns and days;
-//! - `sine_at_turn`: the sine at an angle that counts parts of a turn.
+//! - `TurningTerm`: a row by turns and days, which are `Turns64` and `Rate80`;
+//! - `sine_at_turn`: the sine at a binary angle, a `Sine56`.
 //!
 //! The terms of the moon go by a few mean angles: each takes multiples of these, and a power of the eccentricity's factor.
 //!
@@ -19,7 +19,7 @@
 //! The sines of `trig_series` are re-exported to the formulas above.
 //!
 //! Within, a table's row becomes `Multiples` (the trait `MultipleRow`), the mean angles become turns (`mean_turns`, `two_turns`), and
-//! `sum_of_rows` sums the rows.
+//! `sum_of_rows` sums the rows. Numbers pass from one function to the next with their units as types (`units`).
 #![tactic(auto)]
 
 mod angle_turns;
@@ -33,7 +33,7 @@ mod tables;
 mod term_rows;
 mod term_spans;
 mod term_sums;
-mod whole;
+mod units;
 
 pub use by_time::sum_of_periodic_terms;
 pub use mean::MeanAngles;
@@ -44,3 +44,4 @@ pub use tables::{
     distance_terms, greatest_terms, latitude_terms, longitude_terms, new_moon_terms, other_terms,
 };
 pub use trig_series::{cos_deg, pi, sin_deg, tan_deg};
+pub use units::{Rate80, Sine56, Turns64};

@@ -1,6 +1,8 @@
 //! Mean angles and their factor, and these as whole numbers.
 ghost use Rattle.std.specs.Prelude.{◌≤◌, ◌+◌, ◌*◌, ◌^◌};
 
+use crate::units::{Degrees61, Factor37, Factor56, Turns64};
+
 /// The moon's mean elongation from the sun, the mean anomalies of the sun and of the moon and the argument of the moon's
 /// latitude, in degrees, and the factor of the eccentricity of the earth's orbit.
 #[derive(Clone, Copy, Drop)]
@@ -12,30 +14,28 @@ pub struct MeanAngles<E> {
     pub eccentricity: E,
 }
 
-/// A mean angle in 2⁻⁶⁴ turns, whole turns left out, and how far it may be from that, in 2⁻⁶¹ degrees; these say nothing where it isn't
-/// known well enough.
+/// A mean angle, whole turns left out, and how far it may be from that; these say nothing where it isn't known well enough.
 #[derive(Clone, Copy)]
 pub(crate) struct MeanTurn {
-    pub turn: u64,
-    pub half: u64,
+    pub turn: Turns64,
+    pub half: Degrees61,
     pub known: bool,
-    ghost narrow: { half ≤ 2 ^ 62 },
 }
 
-/// The factor of the eccentricity and its square in 2⁻⁵⁶, how far each may be from that, and what neither is above, nor 1, in 2⁻³⁷. In the
-/// years of which ΔT is known the factor is from 0.99 to 1.06, so that its square is below 5 / 4 too.
+/// The factor of the eccentricity and its square, how far each may be from that, and what neither is above, nor 1. In the years of
+/// which ΔT is known the factor is from 0.99 to 1.06, so that its square is below 5 / 4 too.
 #[derive(Clone, Copy)]
 pub(crate) struct MeanFactors {
-    pub first: u64,
-    pub second: u64,
-    pub wide: u64,
-    pub greatest: u64,
-    ghost first_low: { wide ≤ first },
-    ghost first_high: { first + wide ≤ greatest * 2 ^ 19 },
-    ghost second_low: { wide ≤ second },
-    ghost second_high: { second + wide ≤ greatest * 2 ^ 19 },
-    ghost least: { 2 ^ 37 ≤ greatest },
-    ghost small: { greatest ≤ 5 * 2 ^ 35 },
+    pub first: Factor56,
+    pub second: Factor56,
+    pub wide: Factor56,
+    pub greatest: Factor37,
+    ghost first_low: { wide.0 ≤ first.0 },
+    ghost first_high: { first.0 + wide.0 ≤ greatest.0 * 2 ^ 19 },
+    ghost second_low: { wide.0 ≤ second.0 },
+    ghost second_high: { second.0 + wide.0 ≤ greatest.0 * 2 ^ 19 },
+    ghost least: { 2 ^ 37 ≤ greatest.0 },
+    ghost small: { greatest.0 ≤ 5 * 2 ^ 35 },
 }
 
 /// The mean angles of a moment, each with how far it may be off by itself, and the factor of the eccentricity.
@@ -48,9 +48,11 @@ pub(crate) struct MeanTurns {
     pub factors: MeanFactors,
 }
 
-/// A factor in 2⁻⁵⁶, and how far it may be from that.
+/// A factor from 0 to 4, and how far it may be from that: so far 64 bits hold a sum of two.
 #[derive(Clone, Copy)]
 pub(crate) struct MeanFactor {
-    pub(crate) middle: u64,
-    pub(crate) wide: u64,
+    pub middle: Factor56,
+    pub wide: Factor56,
+    ghost small: { middle.0 ≤ 2 ^ 58 },
+    ghost narrow: { wide.0 ≤ 2 ^ 58 },
 }

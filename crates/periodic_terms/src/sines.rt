@@ -1,71 +1,69 @@
 //! The sine at a binary angle, which counts parts of a turn.
 //!
 //! The angle goes through degrees: that costs a product, and lets the numbers and the lemmas of `trig_series` serve as they are.
-ghost use Rattle.std.specs.Prelude.{◌≡◌, ◌≤◌, ◌^◌, pos, neg_ℤ, ◌≤ℤ◌, ◌<ℤ◌, ◌+ℤ◌, ◌-ℤ◌, ◌*ℤ◌};
-ghost use Rattle.encl_core.specs.parts.TheConstants.{OCTANT};
+ghost use Rattle.std.specs.Prelude.{◌≡◌, ◌≤◌, pos, ◌<ℤ◌, ◌≤ℤ◌, ◌+ℤ◌, ◌-ℤ◌, ◌*ℤ◌};
 ghost use Rattle.periodic_terms.specs.Turning.{HasPoint, octant_of, degrees_of};
 
+use crate::units::{OctantDegrees56, Sine56, Turns64};
 use encl_core::parts::OCTANT;
 use trig_series::{cosine_of_degrees_56, sine_of_degrees_56};
 
 /// An eighth of a turn, in 2⁻⁶⁴ turns.
 const EIGHTH: u64 = 1 << 61;
 
-/// How far an angle in units of 2⁻⁶⁴ turns is into its octant, in degrees in units of 2⁻⁵⁶, rounded down.
+/// How far an angle is into its octant, rounded down.
 #[inline(always)]
-fn degrees_into(turn: u64) -> u64
-    ensures value { result ≡ degrees_of turn }
-    ensures octant { result ≤ OCTANT }
+fn degrees_into(turn: Turns64) -> OctantDegrees56
+    ensures value { result.count ≡ degrees_of turn.0 }
 {
-    let rest = turn - (turn >> 61) * EIGHTH;
+    let rest = turn.0 - (turn.0 >> 61) * EIGHTH;
     // an octant has 45 degrees: 45 · 2⁵⁶ / 2⁶¹ is 45 / 2⁵
-    (u128::from(rest) * 45 >> 5) as u64
+    OctantDegrees56 {
+        count: (u128::from(rest) * 45 >> 5) as u64,
+    }
 }
 
-/// A number in units of 2⁻⁶⁴, in parts of 2⁻⁵⁶, rounded down.
+/// A sine in units of 2⁻⁶⁴, rounded down to 2⁻⁵⁶.
 #[inline(always)]
-fn parts_of(number: u64) -> i64
-    ensures below { (result *ℤ pos 256) ≤ℤ pos number }
-    ensures close { pos number <ℤ (result *ℤ pos 256 +ℤ pos 256) }
-    ensures from { pos 0 ≤ℤ result }
-    ensures to { result ≤ℤ pos (2 ^ 56) }
+fn rounded_sine(sine: u64) -> Sine56
+    ensures below { (result.count *ℤ pos 256) ≤ℤ pos sine }
+    ensures close { pos sine <ℤ (result.count *ℤ pos 256 +ℤ pos 256) }
 {
-    (number >> 8) as i64
+    Sine56 {
+        count: (sine >> 8) as i64,
+    }
 }
 
-/// The sine at so many degrees into an octant of the first half turn, rounded down to parts of 2⁻⁵⁶. The kernel is within 384 parts of
-/// 2⁻⁶⁴, a part and a half of 2⁻⁵⁶; with the rounding that is less than three.
+/// The sine at so many degrees into an octant of the first half turn, rounded down. The kernel is within 384 parts of 2⁻⁶⁴, a part and a
+/// half of 2⁻⁵⁶; with the rounding that is less than three.
 #[inline(always)]
-fn sine_into_half(octant: u64, degrees: u64) -> i64
+fn sine_into_half(octant: u64, degrees: OctantDegrees56) -> Sine56
     requires octant { octant ≤ 3 }
-    requires degrees { degrees ≤ OCTANT }
-    ensures near { HasPoint octant degrees (result -ℤ pos 3) (result +ℤ pos 3) }
-    ensures from { pos 0 ≤ℤ result }
-    ensures to { result ≤ℤ pos (2 ^ 56) }
+    ensures near { HasPoint octant degrees.count (result.count -ℤ pos 3) (result.count +ℤ pos 3) }
 {
     if octant == 0 {
-        return parts_of(sine_of_degrees_56(degrees));
+        return rounded_sine(sine_of_degrees_56(degrees.count));
     }
     if octant == 1 {
-        return parts_of(cosine_of_degrees_56(OCTANT - degrees));
+        return rounded_sine(cosine_of_degrees_56(OCTANT - degrees.count));
     }
     if octant == 2 {
-        return parts_of(cosine_of_degrees_56(degrees));
+        return rounded_sine(cosine_of_degrees_56(degrees.count));
     }
-    parts_of(sine_of_degrees_56(OCTANT - degrees))
+    rounded_sine(sine_of_degrees_56(OCTANT - degrees.count))
 }
 
-/// The sine at an angle in units of 2⁻⁶⁴ turns, in parts of 2⁻⁵⁶: within three of them.
+/// The sine at a binary angle, within three parts of 2⁻⁵⁶.
 #[inline(always)]
-pub fn sine_at_turn(turn: u64) -> i64
-    ensures near { HasPoint (octant_of turn) (degrees_of turn) (result -ℤ pos 3) (result +ℤ pos 3) }
-    ensures from { neg_ℤ (pos (2 ^ 56)) ≤ℤ result }
-    ensures to { result ≤ℤ pos (2 ^ 56) }
+pub fn sine_at_turn(turn: Turns64) -> Sine56
+    ensures near { HasPoint (octant_of turn.0) (degrees_of turn.0) (result.count -ℤ pos 3) (result.count +ℤ pos 3) }
 {
-    let octant = turn >> 61;
+    let octant = turn.0 >> 61;
     let degrees = degrees_into(turn);
     if octant >= 4 {
-        return -sine_into_half(octant - 4, degrees);
+        return Sine56 {
+            count: -sine_into_half(octant - 4, degrees).count,
+        };
     }
     sine_into_half(octant, degrees)
 }

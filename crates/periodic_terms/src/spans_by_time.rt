@@ -15,116 +15,114 @@ ghost use Rattle.periodic_terms.specs.Turning.{AreTurning, AreNear, HasReach, Ar
 
 use crate::rows_by_time::TurningTerm;
 use crate::sums_by_time::sum_at;
+use crate::units::{Days48, Days56, Sum56};
 use encl_core::Span;
 use encl_core::parts::ONE;
 
-/// 2²⁰ days, in units of 2⁻⁵⁶: all that the table of ΔT has, and the days of every fact, lie within them. The table begins
-/// 912,741 days before the year 2000, and 2²⁰ are 1,048,576; the rates' roundings are added up to there.
-const FAR: i128 = 1 << 76;
+/// 2²⁰ days, in 2⁻⁵⁶: all that the table of ΔT has, and the days of every fact, lie within them. The table begins 912,741 days
+/// before the year 2000, and 2²⁰ are 1,048,576; the rates' roundings are added up to there.
+const GREATEST_DAYS_56: i128 = 1 << 76;
 
-/// 64 days, in units of 2⁻⁵⁶. A width of 64 bits holds them, and beyond them a sum of the sky's periodic terms is as wide as it may be.
-const LONG: i128 = 1 << 62;
+/// 64 days, in 2⁻⁵⁶. A width of 64 bits holds them, and beyond them a sum of the sky's periodic terms is as wide as it may be.
+const GREATEST_WIDTH_56: i128 = 1 << 62;
 
 /// How many parts of 2⁻⁵⁶ the sine of a row is off at most beside what its angle moves over the days: 3 are its own. The angle is off by
 /// 23 parts of 2⁻⁵⁶ degrees by the rate's rounding over 2²⁰ days, by less than 5 by the others, and by 1,300 where octants meet; a 57th of
 /// that, rounded up, is 25, since a degree is less than a 57th of a radian.
-const ROUNDINGS: u128 = 28;
+const TERM_ROUNDINGS: u128 = 28;
 
-/// How many parts of 2⁻⁵⁶ days are one of 2⁻⁴⁸.
-const PARTS: i128 = 1 << 8;
+/// How many parts of 2⁻⁵⁶ are one of 2⁻⁴⁸.
+const PARTS_56_OF_48: i128 = 1 << 8;
 
-/// The middle of an interval of days, in units of 2⁻⁴⁸, rounded down; `None` further than 2²⁰ days from 0. So fine a unit costs
-/// nothing, and with a rate in 2⁻⁸⁰ turns a day makes one that wraps at a turn. Of coarse days, whose endpoints are in units of
-/// 2⁻³⁶, the middle is exact.
+/// The middle of an interval of days, rounded down; `None` further than 2²⁰ days from 0. So fine a unit costs nothing, and with a rate in
+/// 2⁻⁸⁰ turns a day makes one that wraps at a turn. Of coarse days, whose endpoints are in units of 2⁻³⁶, the middle is exact.
 #[inline(always)]
-fn middle_of(days: Span) -> Option<i128>
+fn middle_day(days: Span) -> Option<Days48>
     ensures low { IfSome result (λ m. neg_ℤ (pos (2 ^ 76)) ≤ℤ days.lo) }
     ensures high { IfSome result (λ m. days.hi ≤ℤ pos (2 ^ 76)) }
-    ensures least { IfSome result (λ m. neg_ℤ (pos (2 ^ 68)) ≤ℤ m) }
-    ensures greatest { IfSome result (λ m. m ≤ℤ pos (2 ^ 68)) }
-    ensures below { IfSome result (λ m. (m *ℤ pos (2 ^ 9)) ≤ℤ (days.lo +ℤ days.hi)) }
-    ensures close { IfSome result (λ m. (days.lo +ℤ days.hi) ≤ℤ (m *ℤ pos (2 ^ 9) +ℤ pos (2 ^ 9))) }
+    ensures below { IfSome result (λ m. (m.count *ℤ pos (2 ^ 9)) ≤ℤ (days.lo +ℤ days.hi)) }
+    ensures close { IfSome result (λ m. (days.lo +ℤ days.hi) ≤ℤ (m.count *ℤ pos (2 ^ 9) +ℤ pos (2 ^ 9))) }
     ensures some { neg_ℤ (pos (2 ^ 76)) ≤ℤ days.lo → days.hi ≤ℤ pos (2 ^ 76) → IsSome result }
 {
-    if days.lo < -FAR {
+    if days.lo < -GREATEST_DAYS_56 {
         return None;
     }
-    if days.hi > FAR {
+    if days.hi > GREATEST_DAYS_56 {
         return None;
     }
-    Some((days.lo + days.hi) >> 9)
+    Some(Days48 {
+        count: (days.lo + days.hi) >> 9,
+    })
 }
 
-/// A part of days in 64 bits.
+/// A width in 64 bits.
 #[inline(always)]
-fn part_of(days: i128) -> u64
+fn narrow_width(days: i128) -> Days56
     requires from { pos 0 ≤ℤ days }
     requires to { days ≤ℤ pos (2 ^ 62) }
-    ensures value { pos result ≡ days }
+    ensures value { pos result.0 ≡ days }
 {
-    days as u64
+    Days56(days as u64)
 }
 
-/// The greater of how far two endpoints are from a middle, where that is at most 64 days.
+/// The greater of how far two endpoints are from a middle, in 2⁻⁵⁶ days, where that is at most 64 days.
 #[inline(always)]
-fn greater_of(before: i128, after: i128) -> Option<u64>
+fn greater_width(before: i128, after: i128) -> Option<Days56>
     requires some { pos 0 ≤ℤ (before +ℤ after) }
     requires few { (before +ℤ after) ≤ℤ pos (2 ^ 100) }
-    ensures before { IfSome result (λ w. before ≤ℤ pos w) }
-    ensures after { IfSome result (λ w. after ≤ℤ pos w) }
-    ensures least { IfSome result (λ w. (d : ℤ) → before ≤ℤ d → after ≤ℤ d → pos w ≤ℤ d) }
+    ensures before { IfSome result (λ w. before ≤ℤ pos w.0) }
+    ensures after { IfSome result (λ w. after ≤ℤ pos w.0) }
+    ensures least { IfSome result (λ w. (d : ℤ) → before ≤ℤ d → after ≤ℤ d → pos w.0 ≤ℤ d) }
     ensures found { before ≤ℤ pos (2 ^ 62) → after ≤ℤ pos (2 ^ 62) → IsSome result }
 {
-    if before > LONG {
+    if before > GREATEST_WIDTH_56 {
         return None;
     }
-    if after > LONG {
+    if after > GREATEST_WIDTH_56 {
         return None;
     }
     if after > before {
-        return Some(part_of(after));
+        return Some(narrow_width(after));
     }
-    Some(part_of(before))
+    Some(narrow_width(before))
 }
 
-/// How far the days lie at most from a middle, in 2⁻⁵⁶; `None` for more than 64 days.
+/// How far the days lie at most from a middle; `None` for more than 64 days.
 #[inline(always)]
-fn width_around(days: Span, mid: i128) -> Option<u64>
+fn width_around(days: Span, middle: Days48) -> Option<Days56>
     requires low { neg_ℤ (pos (2 ^ 76)) ≤ℤ days.lo }
     requires high { days.hi ≤ℤ pos (2 ^ 76) }
-    requires least { neg_ℤ (pos (2 ^ 68)) ≤ℤ mid }
-    requires greatest { mid ≤ℤ pos (2 ^ 68) }
-    requires below { (mid *ℤ pos (2 ^ 9)) ≤ℤ (days.lo +ℤ days.hi) }
-    requires close { (days.lo +ℤ days.hi) ≤ℤ (mid *ℤ pos (2 ^ 9) +ℤ pos (2 ^ 9)) }
-    ensures near { IfSome result (λ w. AreNear mid w days.lo days.hi) }
-    ensures half { IfSome result (λ w. (pos 2 *ℤ pos w) ≤ℤ ((days.hi -ℤ days.lo) +ℤ pos (2 ^ 9))) }
+    requires below { (middle.count *ℤ pos (2 ^ 9)) ≤ℤ (days.lo +ℤ days.hi) }
+    requires close { (days.lo +ℤ days.hi) ≤ℤ (middle.count *ℤ pos (2 ^ 9) +ℤ pos (2 ^ 9)) }
+    ensures near { IfSome result (λ w. AreNear middle.count w.0 days.lo days.hi) }
+    ensures half { IfSome result (λ w. (pos 2 *ℤ pos w.0) ≤ℤ ((days.hi -ℤ days.lo) +ℤ pos (2 ^ 9))) }
     ensures found { (days.hi -ℤ days.lo) ≤ℤ pos (2 ^ 62) → IsSome result }
 {
-    let middle = mid * PARTS;
-    greater_of(middle - days.lo, days.hi - middle)
+    let at = middle.count * PARTS_56_OF_48;
+    greater_width(at - days.lo, days.hi - at)
 }
 
 /// A slope, in units of 2⁻³², times a width, rounded down.
 #[inline(always)]
-fn moved_by(width: u64, slope: u64) -> u128
-    ensures value { result ≡ width * slope / 2 ^ 32 }
+fn movement(width: Days56, slope: u64) -> u128
+    ensures value { result ≡ width.0 * slope / 2 ^ 32 }
     ensures small { result ≤ 2 ^ 96 }
 {
-    u128::from(width) * u128::from(slope) >> 32
+    u128::from(width.0) * u128::from(slope) >> 32
 }
 
 /// How far the sum is off at most: a slope, in units of 2⁻³², times the width of the days, and 28 times the sizes.
 #[inline(always)]
-fn radius_of(width: u64, slope: u64, sizes: u64) -> i128
+fn radius(width: Days56, slope: u64, sizes: u64) -> Sum56
     requires few { sizes ≤ 2 ^ 40 }
-    ensures enough { (pos (width * slope) +ℤ pos sizes *ℤ pos (28 * 2 ^ 32)) ≤ℤ
-        (result *ℤ pos (2 ^ 32)) }
-    ensures close { (result *ℤ pos (2 ^ 32)) ≤ℤ ((pos (width * slope) +ℤ pos sizes
+    ensures enough { (pos (width.0 * slope) +ℤ pos sizes *ℤ pos (28 * 2 ^ 32)) ≤ℤ
+        (result.0 *ℤ pos (2 ^ 32)) }
+    ensures close { (result.0 *ℤ pos (2 ^ 32)) ≤ℤ ((pos (width.0 * slope) +ℤ pos sizes
         *ℤ pos (28 * 2 ^ 32)) +ℤ pos (2 ^ 32)) }
-    ensures low { pos 0 ≤ℤ result }
-    ensures high { result ≤ℤ pos (2 ^ 100) }
+    ensures low { pos 0 ≤ℤ result.0 }
+    ensures high { result.0 ≤ℤ pos (2 ^ 100) }
 {
-    (moved_by(width, slope) + ROUNDINGS * u128::from(sizes) + 1) as i128
+    Sum56((movement(width, slope) + TERM_ROUNDINGS * u128::from(sizes) + 1) as i128)
 }
 
 /// The sum of the rows over days that are known to 64 days a side and lie within 2²⁰ of 0; `None` over others.
@@ -140,10 +138,10 @@ fn near_sum(rows: &[TurningTerm], slope: u64, sizes: u64, days: Span) -> Option<
         (pos sizes *ℤ pos 28 +ℤ pos 1) *ℤ pos (2 ^ 33))) }
     ensures some { AreKnown days.lo days.hi → IsSome result }
 {
-    let mid = middle_of(days)?;
-    let width = width_around(days, mid)?;
-    let sum = sum_at(rows, mid);
-    let radius = radius_of(width, slope, sizes);
+    let middle = middle_day(days)?;
+    let width = width_around(days, middle)?;
+    let sum = sum_at(rows, middle).0;
+    let radius = radius(width, slope, sizes).0;
     Some(Span {
         lo: sum - radius,
         hi: sum + radius,

@@ -13,20 +13,20 @@ ghost use Rattle.periodic_terms.specs.declared.term_rows.Multiples.{Multiples};
 ghost use Rattle.periodic_terms.specs.Multiples.{AreKnown, IsSmallRow, IsTerm, around_93, factor_of, multiples_of, radius_of, sums_of, turns_of};
 
 use crate::mean::{MeanFactors, MeanTurns};
-use crate::rows_by_time::low_64;
+use crate::rows_by_time::reduced_turn;
 use crate::sines::sine_at_turn;
+use crate::units::{Factor56, FactoredSine56, ManyTurns64, Sine56, Sum56, Sum93, Turns64};
+use encl_core::parts::NATURAL_ONE;
 use encl_core::shr_floor;
 
 /// A quarter of a turn, in 2⁻⁶⁴ turns.
-const QUARTER: i128 = 1 << 62;
+const QUARTER_TURN_64: i128 = 1 << 62;
 
-/// 1, in units of 2⁻³⁷, and 2⁻⁵⁶.
-pub(crate) const ONE: u64 = 1 << 37;
-
-pub(crate) const UNIT: u64 = 1 << 56;
+/// 1, in 2⁻³⁷.
+pub(crate) const ONE_37: u64 = 1 << 37;
 
 /// How many parts of 2⁻⁹³ are one of 2⁻⁵⁶.
-const PARTS: i128 = 1 << 37;
+const PARTS_93_OF_56: i128 = 1 << 37;
 
 /// A row as it is summed: how many times it takes each mean angle, how many quarters of a turn its angle is ahead of their sum (none of
 /// a sine and one of a cosine), the power of the eccentricity's factor, and its size.
@@ -41,60 +41,63 @@ pub(crate) struct Multiples {
     pub size: i64,
 }
 
-/// So many times an angle in units of 2⁻⁶⁴ turns.
+/// So many times an angle.
 #[inline(always)]
-fn times(multiple: i64, turn: u64) -> i128
+fn times(multiple: i64, turn: Turns64) -> ManyTurns64
     requires few { unsigned_abs multiple ≤ 8 }
-    ensures value { result ≡ multiple *ℤ pos turn }
-    ensures from { neg_ℤ (pos (2 ^ 67)) ≤ℤ result }
-    ensures to { result ≤ℤ pos (2 ^ 67) }
+    ensures value { result.0 ≡ multiple *ℤ pos turn.0 }
+    ensures from { neg_ℤ (pos (2 ^ 67)) ≤ℤ result.0 }
+    ensures to { result.0 ≤ℤ pos (2 ^ 67) }
 {
-    i128::from(multiple) * i128::from(turn)
+    ManyTurns64(i128::from(multiple) * i128::from(turn.0))
 }
 
-/// The sum of a row's multiples, in 2⁻⁶⁴ turns.
+/// The sum of a row's multiples.
 #[inline(always)]
-fn turned(row: Multiples, turns: &MeanTurns) -> i128
+fn sum_of_multiples(row: Multiples, turns: &MeanTurns) -> ManyTurns64
     requires small { IsSmallRow row }
-    ensures value { result ≡ multiples_of turns.now row }
-    ensures from { neg_ℤ (pos (2 ^ 70)) ≤ℤ result }
-    ensures to { result ≤ℤ pos (2 ^ 70) }
+    ensures value { result.0 ≡ multiples_of turns.now row }
+    ensures from { neg_ℤ (pos (2 ^ 70)) ≤ℤ result.0 }
+    ensures to { result.0 ≤ℤ pos (2 ^ 70) }
 {
-    times(row.elongation, turns.elongation.turn)
-        + times(row.sun_anomaly, turns.sun_anomaly.turn)
-        + times(row.moon_anomaly, turns.moon_anomaly.turn)
-        + times(row.latitude_argument, turns.latitude_argument.turn)
+    ManyTurns64(
+        times(row.elongation, turns.elongation.turn).0
+            + times(row.sun_anomaly, turns.sun_anomaly.turn).0
+            + times(row.moon_anomaly, turns.moon_anomaly.turn).0
+            + times(row.latitude_argument, turns.latitude_argument.turn).0,
+    )
 }
 
-/// So many quarters of a turn, in 2⁻⁶⁴ turns.
+/// So many quarters of a turn.
 #[inline(always)]
-fn ahead(quarters: u64) -> i128
+fn quarters_ahead(quarters: u64) -> ManyTurns64
     requires few { quarters ≤ 1 }
-    ensures value { result ≡ pos (quarters * 2 ^ 62) }
-    ensures small { result ≤ℤ pos (2 ^ 62) }
+    ensures value { result.0 ≡ pos (quarters * 2 ^ 62) }
+    ensures small { result.0 ≤ℤ pos (2 ^ 62) }
 {
-    i128::from(quarters) * QUARTER
+    ManyTurns64(i128::from(quarters) * QUARTER_TURN_64)
 }
 
-/// The angle of a row, in 2⁻⁶⁴ turns, with whole turns left out.
+/// The angle of a row, with whole turns left out.
 #[inline(always)]
-fn turn_of(row: Multiples, turns: &MeanTurns) -> u64
+fn row_turn(row: Multiples, turns: &MeanTurns) -> Turns64
     requires small { IsSmallRow row }
-    ensures value { pos result ≡ turns_of turns.now row
+    ensures value { pos result.0 ≡ turns_of turns.now row
         -ℤ whole_turns (turns_of turns.now row) *ℤ pos (2 ^ 64) }
 {
-    low_64(turned(row, turns) + ahead(row.quarters))
+    let ahead = quarters_ahead(row.quarters);
+    reduced_turn(ManyTurns64(sum_of_multiples(row, turns).0 + ahead.0))
 }
 
-/// The power of the factor by which a row is multiplied, in 2⁻⁵⁶.
+/// The power of the factor by which a row is multiplied.
 #[inline(always)]
-fn factor(power: u64, factors: MeanFactors) -> u64
+fn factor(power: u64, factors: MeanFactors) -> Factor56
     requires few { power ≤ 2 }
-    ensures value { result ≡ factor_of factors power }
-    ensures small { result ≤ 5 * 2 ^ 54 }
+    ensures value { result.0 ≡ factor_of factors power }
+    ensures small { result.0 ≤ 5 * 2 ^ 54 }
 {
     if power == 0 {
-        return UNIT;
+        return Factor56(NATURAL_ONE);
     }
     if power == 1 {
         return factors.first;
@@ -102,58 +105,53 @@ fn factor(power: u64, factors: MeanFactors) -> u64
     factors.second
 }
 
-/// A factor times a sine, both in units of 2⁻⁵⁶.
+/// A factor times a sine, in 2⁻¹¹².
 #[inline(always)]
-fn factored(factor: u64, sine: i64) -> i128
-    requires factor { factor ≤ 5 * 2 ^ 54 }
-    requires from { neg_ℤ (pos (2 ^ 56)) ≤ℤ sine }
-    requires to { sine ≤ℤ pos (2 ^ 56) }
-    ensures value { result ≡ pos factor *ℤ sine }
+fn factored(factor: Factor56, sine: Sine56) -> i128
+    requires factor { factor.0 ≤ 5 * 2 ^ 54 }
+    ensures value { result ≡ pos factor.0 *ℤ sine.count }
     ensures low { neg_ℤ (pos (5 * 2 ^ 110)) ≤ℤ result }
     ensures high { result ≤ℤ pos (5 * 2 ^ 110) }
 {
-    i128::from(factor) * i128::from(sine)
+    i128::from(factor.0) * i128::from(sine.count)
 }
 
-/// The same in 2⁻⁵⁶, rounded down.
+/// The same, rounded down.
 #[inline(always)]
-fn scaled(factor: u64, sine: i64) -> i64
-    requires factor { factor ≤ 5 * 2 ^ 54 }
-    requires from { neg_ℤ (pos (2 ^ 56)) ≤ℤ sine }
-    requires to { sine ≤ℤ pos (2 ^ 56) }
-    ensures below { (result *ℤ pos (2 ^ 56)) ≤ℤ (pos factor *ℤ sine) }
-    ensures close { (pos factor *ℤ sine) <ℤ (result *ℤ pos (2 ^ 56) +ℤ pos (2 ^ 56)) }
-    ensures low { neg_ℤ (pos (5 * 2 ^ 54)) ≤ℤ result }
-    ensures high { result ≤ℤ pos (5 * 2 ^ 54) }
+fn scaled(factor: Factor56, sine: Sine56) -> FactoredSine56
+    requires factor { factor.0 ≤ 5 * 2 ^ 54 }
+    ensures below { (result.count *ℤ pos (2 ^ 56)) ≤ℤ (pos factor.0 *ℤ sine.count) }
+    ensures close { (pos factor.0 *ℤ sine.count) <ℤ (result.count *ℤ pos (2 ^ 56) +ℤ pos (2 ^ 56)) }
 {
-    shr_floor::<56>(factored(factor, sine)) as i64
+    FactoredSine56 {
+        count: shr_floor::<56>(factored(factor, sine)) as i64,
+    }
 }
 
 /// A size times that.
 #[inline(always)]
-fn sized(size: i64, scaled: i64) -> i128
+fn sized(size: i64, scaled: FactoredSine56) -> Sum56
     requires size { unsigned_abs size ≤ 2 ^ 25 }
-    requires from { neg_ℤ (pos (5 * 2 ^ 54)) ≤ℤ scaled }
-    requires to { scaled ≤ℤ pos (5 * 2 ^ 54) }
-    ensures value { result ≡ size *ℤ scaled }
-    ensures low { neg_ℤ (pos (5 * 2 ^ 79)) ≤ℤ result }
-    ensures high { result ≤ℤ pos (5 * 2 ^ 79) }
+    ensures value { result.0 ≡ size *ℤ scaled.count }
+    ensures low { neg_ℤ (pos (5 * 2 ^ 79)) ≤ℤ result.0 }
+    ensures high { result.0 ≤ℤ pos (5 * 2 ^ 79) }
 {
-    i128::from(size) * i128::from(scaled)
+    Sum56(i128::from(size) * i128::from(scaled.count))
 }
 
-/// What a row adds by the mean angles, in 2⁻⁹³ of its size.
+/// What a row adds by the mean angles.
 #[inline(always)]
-pub(crate) fn row_at(row: Multiples, turns: &MeanTurns) -> i128
+pub(crate) fn row_at(row: Multiples, turns: &MeanTurns) -> Sum93
     requires small { IsSmallRow row }
     ensures holds { (w : World) (u : ℕ) (x : Expression) → DEPTH ≤ w.depth → AreKnown turns.now
         → IsTerm w u turns.now row x
-        → value w x ⊆ around_93 u result (radius_of turns.now (sums_of row)) }
-    ensures low { neg_ℤ (pos (2 ^ 119)) ≤ℤ result }
-    ensures high { result ≤ℤ pos (2 ^ 119) }
+        → value w x ⊆ around_93 u result.0 (radius_of turns.now (sums_of row)) }
+    ensures low { neg_ℤ (pos (2 ^ 119)) ≤ℤ result.0 }
+    ensures high { result.0 ≤ℤ pos (2 ^ 119) }
 {
-    let sine = sine_at_turn(turn_of(row, turns));
-    sized(row.size, scaled(factor(row.power, turns.factors), sine)) * PARTS
+    let sine = sine_at_turn(row_turn(row, turns));
+    let part = sized(row.size, scaled(factor(row.power, turns.factors), sine));
+    Sum93(part.0 * PARTS_93_OF_56)
 }
 
 /// A row of a table as it is summed for `S`: a table may have several sums, as the longitude's and the distance's are of the same rows.

@@ -14,8 +14,8 @@ ghost use Rattle.periodic_terms.specs.Multiples.{AreFew, AreKnown, AreSmall, Are
 ghost use Rattle.periodic_terms.specs.Widths.{AreTurnsWithin, wide_of};
 
 use crate::mean::{MeanFactors, MeanTurn, MeanTurns};
-use crate::term_rows::{MultipleRow, ONE, row_at};
-use crate::whole::WholeSum;
+use crate::term_rows::{MultipleRow, ONE_37, row_at};
+use crate::units::{Span93, Sum93};
 
 /// The totals of a table's rows: for each mean angle the sum of their sizes times the number of times that they take it, the sum of
 /// their sizes, and of the sizes of those with a power of the factor.
@@ -35,28 +35,28 @@ const PART_OF_HALF: u64 = 57 * 32;
 
 /// How many parts of 2⁻⁵⁶ the sine of a row is off at most beside that: 3 are its own, 6 a 57th of what its angle is off by roundings
 /// and where octants meet, and 2 the roundings of these quotients.
-const ROUNDINGS: u128 = 11;
+const TERM_ROUNDINGS: u128 = 11;
 
 /// The greatest sine, in 2⁻⁵⁶.
-const GREATEST_SINE: u128 = 1 << 56;
+const GREATEST_SINE_56: u128 = 1 << 56;
 
-/// The sum of the rows in the middle of the mean angles, in 2⁻⁹³ of their sizes.
+/// The sum of the rows in the middle of the mean angles.
 #[inline(always)]
-fn sum_at<S, T: MultipleRow<S>>(rows: &[T], turns: &MeanTurns) -> i128
+fn sum_at<S, T: MultipleRow<S>>(rows: &[T], turns: &MeanTurns) -> Sum93
     requires few { length rows.now ≤ 2 ^ 6 }
     requires small { AreSmall T.row_of rows.now }
     ensures holds { (w : World) (u : ℕ) (term : T → Expression) (none : T) → DEPTH ≤ w.depth
         → AreKnown turns.now → AreTerms w u turns.now T.row_of term rows.now none
-        → value w (terms_of term none rows.now) ⊆ around_93 u result
+        → value w (terms_of term none rows.now) ⊆ around_93 u result.0
         (radius_of turns.now (sums_to T.row_of none rows.now (length rows.now))) }
-    ensures low { neg_ℤ (pos (2 ^ 125)) ≤ℤ result }
-    ensures high { result ≤ℤ pos (2 ^ 125) }
+    ensures low { neg_ℤ (pos (2 ^ 125)) ≤ℤ result.0 }
+    ensures high { result.0 ≤ℤ pos (2 ^ 125) }
 {
     let mut sum: i128 = 0;
     for row in rows {
-        sum += row_at(row.row(), turns);
+        sum += row_at(row.row(), turns).0;
     }
-    sum
+    Sum93(sum)
 }
 
 /// What an angle is taken times the sizes, times how far the sine may be off by one time it, in 2⁻⁵⁶.
@@ -66,27 +66,27 @@ fn spread(reach: u64, angle: MeanTurn) -> u128
     ensures value { result ≡ spread_by reach angle }
     ensures small { result ≤ 2 ^ 80 }
 {
-    u128::from(reach) * u128::from(angle.half / PART_OF_HALF + 1)
+    u128::from(reach) * u128::from(angle.half.count / PART_OF_HALF + 1)
 }
 
-/// What the sines are off at most, times the greatest factor.
+/// What the sines are off at most, in 2⁻⁵⁶, times the greatest factor, in 2⁻⁹³.
 #[inline(always)]
-fn by_factor(factors: MeanFactors, spread: u128) -> u128
+fn spread_by_factor(factors: MeanFactors, spread: u128) -> u128
     requires spread { spread ≤ 2 ^ 83 }
-    ensures value { result ≡ factors.greatest * spread }
+    ensures value { result ≡ factors.greatest.0 * spread }
     ensures small { result ≤ 5 * 2 ^ 118 }
 {
-    u128::from(factors.greatest) * spread
+    u128::from(factors.greatest.0) * spread
 }
 
-/// What the factors are off at most, times the greatest sine, and the rounding of their products with a sine.
+/// What the factors are off at most, times the greatest sine, and the rounding of their products with a sine, in 2⁻⁹³.
 #[inline(always)]
-fn by_sine(powered: u64, factors: MeanFactors) -> u128
+fn spread_by_sine(powered: u64, factors: MeanFactors) -> u128
     requires powered { powered ≤ 2 ^ 28 }
-    ensures value { result ≡ powered * ((factors.wide + 1) * 2 ^ 37) }
+    ensures value { result ≡ powered * ((factors.wide.0 + 1) * 2 ^ 37) }
     ensures small { result ≤ 5 * 2 ^ 119 }
 {
-    u128::from(powered) * (u128::from(factors.wide + 1) * u128::from(ONE))
+    u128::from(powered) * (u128::from(factors.wide.0 + 1) * u128::from(ONE_37))
 }
 
 /// How far the sum of the sines is off at most, in 2⁻⁵⁶ of their sizes.
@@ -103,23 +103,23 @@ fn sines_off(turns: &MeanTurns, sums: RowSums) -> u128
         + spread(sums.sun_anomaly, turns.sun_anomaly)
         + spread(sums.moon_anomaly, turns.moon_anomaly)
         + spread(sums.latitude_argument, turns.latitude_argument)
-        + ROUNDINGS * u128::from(sums.sizes)
+        + TERM_ROUNDINGS * u128::from(sums.sizes)
 }
 
 /// How far the sum of the rows is off at most.
 #[inline(always)]
-fn radius(turns: &MeanTurns, sums: RowSums) -> i128
+fn radius(turns: &MeanTurns, sums: RowSums) -> Sum93
     requires few { AreFew sums }
-    ensures value { result ≡ pos (radius_of turns.now sums) }
-    ensures high { result ≤ℤ pos (2 ^ 125) }
+    ensures value { result.0 ≡ pos (radius_of turns.now sums) }
+    ensures high { result.0 ≤ℤ pos (2 ^ 125) }
 {
-    let by_angles = by_factor(turns.factors, sines_off(turns, sums));
-    (by_angles + by_sine(sums.powered, turns.factors)) as i128
+    let by_angles = spread_by_factor(turns.factors, sines_off(turns, sums));
+    Sum93((by_angles + spread_by_sine(sums.powered, turns.factors)) as i128)
 }
 
 /// The sum of the rows, where the mean angles are known.
 #[inline(always)]
-fn sum_around<S, T: MultipleRow<S>>(rows: &[T], turns: &MeanTurns, sums: RowSums) -> WholeSum
+fn sum_around<S, T: MultipleRow<S>>(rows: &[T], turns: &MeanTurns, sums: RowSums) -> Span93
     requires few { length rows.now ≤ 2 ^ 6 }
     requires small { AreSmall T.row_of rows.now }
     requires sums { (none : T) → HasSums T.row_of rows.now none sums }
@@ -129,9 +129,9 @@ fn sum_around<S, T: MultipleRow<S>>(rows: &[T], turns: &MeanTurns, sums: RowSums
         → value w (terms_of term none rows.now) ⊆ between (in_93 u result.lo) (in_93 u result.hi) }
     ensures wide { (result.hi -ℤ result.lo) ≡ pos (2 * radius_of turns.now sums) }
 {
-    let sum = sum_at(rows, turns);
-    let radius = radius(turns, sums);
-    WholeSum {
+    let sum = sum_at(rows, turns).0;
+    let radius = radius(turns, sums).0;
+    Span93 {
         lo: sum - radius,
         hi: sum + radius,
     }
@@ -139,17 +139,17 @@ fn sum_around<S, T: MultipleRow<S>>(rows: &[T], turns: &MeanTurns, sums: RowSums
 
 /// The greatest size of a sum.
 #[inline(always)]
-fn most(factors: MeanFactors, sums: RowSums) -> i128
+fn most(factors: MeanFactors, sums: RowSums) -> Sum93
     requires few { AreFew sums }
-    ensures value { result ≡ pos (most_of factors sums) }
-    ensures small { result ≤ℤ pos (2 ^ 124) }
+    ensures value { result.0 ≡ pos (most_of factors sums) }
+    ensures small { result.0 ≤ℤ pos (2 ^ 124) }
 {
-    let sizes = u128::from(sums.sizes) * u128::from(ONE);
-    let powered = u128::from(sums.powered) * u128::from(factors.greatest - ONE);
-    ((sizes + powered) * GREATEST_SINE) as i128
+    let sizes = u128::from(sums.sizes) * u128::from(ONE_37);
+    let powered = u128::from(sums.powered) * u128::from(factors.greatest.0 - ONE_37);
+    Sum93(((sizes + powered) * GREATEST_SINE_56) as i128)
 }
 
-/// An endpoint of a sum, no further out than a sum may be.
+/// An endpoint of a sum, in 2⁻⁹³, no further out than a sum may be.
 #[inline(always)]
 fn cut(end: i128, most: i128) -> i128
     requires some { pos 0 ≤ℤ most }
@@ -177,7 +177,7 @@ pub(crate) fn sum_of_rows<S, T: MultipleRow<S>>(
     rows: &[T],
     turns: &MeanTurns,
     sums: RowSums,
-) -> WholeSum
+) -> Span93
     requires few { length rows.now ≤ 2 ^ 6 }
     requires small { AreSmall T.row_of rows.now }
     requires sums { (none : T) → HasSums T.row_of rows.now none sums }
@@ -190,15 +190,15 @@ pub(crate) fn sum_of_rows<S, T: MultipleRow<S>>(
     ensures least { neg_ℤ (pos (most_of turns.now.factors sums)) ≤ℤ result.lo }
     ensures greatest { result.hi ≤ℤ pos (most_of turns.now.factors sums) }
 {
-    let most = most(turns.factors, sums);
+    let most = most(turns.factors, sums).0;
     if !all_known(turns) {
-        return WholeSum {
+        return Span93 {
             lo: -most,
             hi: most,
         };
     }
     let sum = sum_around(rows, turns, sums);
-    WholeSum {
+    Span93 {
         lo: cut(sum.lo, most),
         hi: cut(sum.hi, most),
     }

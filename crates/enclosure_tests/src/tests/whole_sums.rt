@@ -1,7 +1,7 @@
 //! Sums of periodic terms in whole numbers: the sines at the edges of octants, and how narrow a sum is, where its days are known and
 //! where they aren't.
 use encl_core::Span;
-use periodic_terms::{TurningTerm, sine_at_turn, sum_over};
+use periodic_terms::{Rate80, TurningTerm, Turns64, sine_at_turn, sum_over};
 
 /// One, in parts of 2⁻⁵⁶; also a day.
 const ONE: i128 = 72_057_594_037_927_936;
@@ -24,7 +24,7 @@ const EDGES: [(u64, i128); 8] = [
 #[test]
 fn sines_at_the_edges_of_octants_are_within_three_parts(rt: HostRuntime) {
     for (turn, sine) in EDGES {
-        let off = i128::from(sine_at_turn(turn)).saturating_sub(sine);
+        let off = i128::from(sine_at_turn(Turns64(turn)).count).saturating_sub(sine);
         assert!(rt; off.abs_diff(0) <= 3, "at {turn}: {off}");
     }
 }
@@ -34,13 +34,13 @@ fn sum_of_two(days: Span) -> Span {
     let rows = [
         TurningTerm {
             size: 3,
-            phase: 1 << 62,
-            rate: 0,
+            phase: Turns64(1 << 62),
+            rate: Rate80(0),
         },
         TurningTerm {
             size: 1,
-            phase: 0,
-            rate: 1 << 77,
+            phase: Turns64(0),
+            rate: Rate80(1 << 77),
         },
     ];
     sum_over(&rows, 3_390_763_655, 4, days)

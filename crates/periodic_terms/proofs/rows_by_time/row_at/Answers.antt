@@ -6,16 +6,16 @@ use Rattle.periodic_terms.proofs.rows_by_time.row_at.Goals as goal
 
 pub returns-clause-holds : goal.returns-clause-holds
 returns-clause-holds c = λ w x v width lo hi d t n k.
-    let fr : SFits w128 c.args.row.now.rate = search rules in
     let fz : SFits w32 c.args.row.now.size = search rules in
-    let fm = c.ranges.mid in
-    let fs : SFits w64 c.sine_at_turn.result = search rules in
-    let ft : Fits w64 c.turn_at.result = search rules in
-    let fy : SFits w128 c.product_of.result = search rules in
-    let e = simp to_z-of_z at c.turn_at.ensures.value in
+    let fm : SFits w128 c.args.days.count = search rules in
+    let fs : SFits w64 c.sine_at_turn.result.count = search rules in
+    let ft : Fits w64 c.term_turn.result.0 = search rules in
+    let fy : SFits w128 c.sized_sine.result.0 = search rules in
+    let e = c.term_turn.ensures.value in
     let p = c.sine_at_turn.ensures.near in
-    let y = simp to_z-of_z at c.product_of.ensures.value in
-    simp to_z-of_z (row_holds w x v c.args.row.now c.turn_at.result c.sine_at_turn.result c.args.mid c.product_of.result
+    let y = simp to_z-of_z at c.sized_sine.ensures.value in
+    row_holds w x v c.args.row.now c.term_turn.result.0 c.sine_at_turn.result.count c.args.days.count
+    c.sized_sine.result.0
     width lo hi d
     (record {
       turning = t;
@@ -23,6 +23,6 @@ returns-clause-holds c = λ w x v width lo hi d t n k.
       turn_is = e;
       near = n;
       point = p;
-      above = c.sine_at_turn.ensures.from;
-      below = c.sine_at_turn.ensures.to;
-    }) k y)
+      above = c.sine_at_turn.result.from;
+      below = c.sine_at_turn.result.to;
+    }) k y

@@ -6,26 +6,28 @@ use Rattle.periodic_terms.proofs.spans_by_time.near_sum.Goals as goal
 
 pub returns : goal.returns
 returns c =
-    let fm : SFits w128 c.in_ok-mid.mid = search rules in
-    let fs : SFits w128 c.sum_at-sum.result = search rules in
-    let fr : SFits w128 c.radius_of-radius.result = search rules in
-    let n = simp to_z-of_z at c.in_ok-width.ensures.near in
+    let fm : SFits w128 c.in_ok-middle.middle.count = search rules in
+    let fs : SFits w128 c.sum_at-sum.result.0 = search rules in
+    let fr : SFits w128 c.radius-radius.result.0 = search rules in
+    let n = c.in_ok-width.ensures.near in
     let v = c.in_ok-width.ensures.half in
-    let h = simp to_z-of_z at c.sum_at-sum.ensures.holds in
+    let h = c.sum_at-sum.ensures.holds in
     let l = c.sum_at-sum.ensures.low in
     let u = c.sum_at-sum.ensures.high in
-    let p = c.radius_of-radius.ensures.low in
-    let q = c.radius_of-radius.ensures.high in
-    let g1 : SFits w128 (c.sum_at-sum.result -ℤ c.radius_of-radius.result) = omega (arith, ints, l, u, p, q) in
-    let g2 : SFits w128 (c.sum_at-sum.result +ℤ c.radius_of-radius.result) = omega (arith, ints, l, u, p, q) in
+    let p = c.radius-radius.ensures.low in
+    let q = c.radius-radius.ensures.high in
+    let g1 : SFits w128 (c.sum_at-sum.result.0 -ℤ c.radius-radius.result.0) = omega (arith, ints, l, u, p, q) in
+    let g2 : SFits w128 (c.sum_at-sum.result.0 +ℤ c.radius-radius.result.0) = omega (arith, ints, l, u, p, q) in
     record {
       holds = simp to_z-of_z (λ w x vs d t r k.
-          span_holds vs c.in_ok-width.width c.args.slope c.args.sizes _ c.sum_at-sum.result c.radius_of-radius.result _
+          span_holds vs c.in_ok-width.width.0 c.args.slope c.args.sizes _ c.sum_at-sum.result.0
+          c.radius-radius.result.0 _
           _ r
-          c.radius_of-radius.ensures.enough refl refl
-          (h w x vs c.in_ok-width.width c.args.days.lo c.args.days.hi d t n k));
-      narrow = simp to_z-of_z (sum_is_narrow c.in_ok-width.width c.args.slope c.args.sizes c.args.days.lo c.args.days.hi
-          c.sum_at-sum.result
-          c.radius_of-radius.result _ _ v c.radius_of-radius.ensures.close refl refl);
+          c.radius-radius.ensures.enough refl refl
+          (h w x vs c.in_ok-width.width.0 c.args.days.lo c.args.days.hi d t n k));
+      narrow = simp to_z-of_z (sum_is_narrow c.in_ok-width.width.0 c.args.slope c.args.sizes c.args.days.lo
+          c.args.days.hi
+          c.sum_at-sum.result.0
+          c.radius-radius.result.0 _ _ v c.radius-radius.ensures.close refl refl);
       some = λ k. refl;
     }

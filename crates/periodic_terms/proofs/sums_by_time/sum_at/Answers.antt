@@ -9,9 +9,9 @@ loop-row-init c = (λ w x vs width lo hi d t n k. none_around w x vs width, omeg
 
 pub loop-row-preserved : goal.loop-row-preserved
 loop-row-preserved c =
-    let fm = c.ranges.mid in
-    let fr : SFits w128 c.row_at-sum.result = search rules in
-    let i = simp to_z-of_z at c.loop-row.invariant in
+    let fm : SFits w128 c.args.days.count = search rules in
+    let fr : SFits w128 c.row_at-sum.result.0 = search rules in
+    let i = c.loop-row.invariant in
     let few : c.loop-row.row-index < 2 ^ 32 = omega (
       arith,
       c.loop-row-test.true,
@@ -20,9 +20,9 @@ loop-row-preserved c =
     ) in
     let l = c.row_at-sum.ensures.low in
     let u = c.row_at-sum.ensures.high in
-    let fs : SFits w128 (to_z w128 c.loop-row.sum-bits +ℤ c.row_at-sum.result) =
+    let fs : SFits w128 (to_z w128 c.loop-row.sum-bits +ℤ c.row_at-sum.result.0) =
     omega (arith, ints, i.1, i.2, few, l, u) in
-    let h = simp to_z-of_z at c.row_at-sum.ensures.holds in
+    let h = c.row_at-sum.ensures.holds in
     simp to_z-of_z (
       λ w x vs width lo hi d t n k. next_around w x vs width c.loop-row.row-index _ _ (i.0 w x vs width lo hi d t n k)
           (h w x _ width lo hi d (t.rows c.loop-row.row-index
@@ -33,8 +33,7 @@ loop-row-preserved c =
 
 pub returns-clause-holds : goal.returns-clause-holds
 returns-clause-holds c =
-    let fm = c.ranges.mid in
-    let i = simp to_z-of_z at c.loop-row.invariant in
+    let i = c.loop-row.invariant in
     λ w x vs width lo hi d t n k.
     let e : c.loop-row.row-index ≡ length c.args.rows.now =
     omega (arith, c.loop-row.auto.row-index-end, c.loop-row-test.false) in

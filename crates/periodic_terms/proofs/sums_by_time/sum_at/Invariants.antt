@@ -12,7 +12,7 @@ use Rattle.periodic_terms.proofs.sums_by_time.sum_at.Given as goal
 abbrev pub invariant-loop-row : goal.invariant-loop-row
 invariant-loop-row l =
     ((w : World) (x : Expression) (vs : List PeriodicTerm) (width : ℕ) (lo hi : ℤ) → 40 ≤ w.depth → AreTurning vs l.rows
-    → AreNear l.mid width lo hi
+    → AreNear l.days.count width lo hi
     → value w x ⊆ between (units_of_56 lo) (units_of_56 hi)
     → value w (terms_to (turning_term_of x) no_periodic_term vs l.row-index) ⊆ around l.sum
     (radius_to vs width l.row-index))

@@ -22,18 +22,18 @@ row_at-sum-requires g c =
 
 pub loop-row-preserved : goal.loop-row-preserved
 loop-row-preserved g c =
-    let fr : SFits w128 c.row_at-sum.result = search rules in
+    let fr : SFits w128 c.row_at-sum.result.0 = search rules in
     let i = c.loop-row.invariant in
     let few : c.loop-row.row-index < 2 ^ 6 = omega (arith, c.loop-row-test.true, c.requires.few) in
     let l = c.row_at-sum.ensures.low in
     let u = c.row_at-sum.ensures.high in
-    let fs : SFits w128 (to_z w128 c.loop-row.sum-bits +ℤ c.row_at-sum.result) =
+    let fs : SFits w128 (to_z w128 c.loop-row.sum-bits +ℤ c.row_at-sum.result.0) =
     omega (arith, ints, i.1, i.2, few, l, u) in
     let h = c.row_at-sum.ensures.holds in
     simp to_z-of_z (
       λ v n term none d a t. item_around v n c.args.turns.now g.T.MultipleRow.row_of term none c.args.rows.now
           c.loop-row.row-index _
-          c.row_at-sum.result c.row.result c.loop-row-test.true
+          c.row_at-sum.result.0 c.row.result c.loop-row-test.true
           (row_is g.T.MultipleRow.row_of c.args.rows.now c.loop-row.row-index none c.row-item.result
           c.row.result c.loop-row-test.true c.row.ensures.value c.row-item.is) t (λ x k. h v n x d a k)
           (i.0 v n term none d a t),

@@ -1,6 +1,6 @@
 use Rattle.periodic_terms.proofs.FoundTurns.{first_found, second_found}
 use Rattle.periodic_terms.proofs.Narrowing.{square_within, usual_within}
-use Rattle.periodic_terms.proofs.angle_turns.factors_of.Goals as goal
+use Rattle.periodic_terms.proofs.angle_turns.known_factors.Goals as goal
 
 pub returns-clause-first : goal.returns-clause-first
 returns-clause-first g c =

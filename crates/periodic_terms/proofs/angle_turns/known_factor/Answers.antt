@@ -2,7 +2,7 @@ use Rattle.std.proofs.Common.{arith, pos, ◌^◌, ◌*◌, refl}
 use Rattle.std.proofs.lemmas.Int.{ints}
 use Rattle.periodic_terms.proofs.FoundTurns.{factor_found}
 use Rattle.periodic_terms.proofs.Narrowing.{endpoints_of, factor_span, some_span}
-use Rattle.periodic_terms.proofs.angle_turns.factor_of.Goals as goal
+use Rattle.periodic_terms.proofs.angle_turns.known_factor.Goals as goal
 
 pub returns-clause-near : goal.returns-clause-near
 returns-clause-near g c =

@@ -2,7 +2,7 @@ use Rattle.std.proofs.Common.{arith, neg_ℤ, pos, ◌^◌, refl}
 use Rattle.std.proofs.lemmas.Int.{ints}
 use Rattle.periodic_terms.proofs.FoundTurns.{turn_found}
 use Rattle.periodic_terms.proofs.Narrowing.{endpoints_of, some_span}
-use Rattle.periodic_terms.proofs.angle_turns.found_turn.Goals as goal
+use Rattle.periodic_terms.proofs.angle_turns.known_turn.Goals as goal
 
 pub returns-in_err-span-clause-narrow : goal.returns-in_err-span-clause-narrow
 returns-in_err-span-clause-narrow g c = λ v l h. absurd (some_span _ _ v _ (c.in_err-span.ensures.none refl) h)
