@@ -2,7 +2,6 @@
 ghost use Rattle.std.specs.Prelude.{◌≡◌, ◌≢◌, ◌<◌, ◌^◌, length, IsTrue, IfOk, OnErr, [], Ok};
 ghost use Rattle.book_model.specs.declared.fact.Fact.{Fact};
 ghost use Rattle.book_model.specs.lines.LineRules.{rule_of};
-ghost use Rattle.book_model.specs.lines.Requests.{is_possible, is_in_reach};
 ghost use Rattle.oracle_core.specs.Pairs.{are_distinct, facts_of, AreFactValues};
 ghost use Rattle.oracle_core.specs.declared.oracle.Stop.TheVariants.{Missing as missing_stop};
 ghost use Rattle.cert_parser.specs.Reading.{are_of_facts, listed as numbers_of};
@@ -12,10 +11,10 @@ ghost use Rattle.cert_check.specs.Verdicts as spec;
 use crate::compare::verdict_by_list;
 use crate::listed::{first_reason, listed_facts, listed_values};
 use crate::verdict::{Reason, Verdict};
-use book_model::{Fact, Request, Version};
+use book_model::Fact;
 use cert_parser::CertFile;
 use cert_text::{CertLine, Echo, no_date_word, too_far_word};
-use line_core::{ThreeWords, read_words, resolve};
+use line_core::{Checked, ThreeWords, check_words, resolve_checked};
 use oracle_core::{Answers, Listed, Stop};
 use std::alloc::{AllocError, Global};
 
@@ -31,27 +30,24 @@ fn verdict_at(stop: Stop) -> Result<Verdict, AllocError>
     }
 }
 
-/// The verdict of a line of a version that lists these facts with their values, and shows this text, by what comes of its
-/// request over them.
+/// The verdict of a line that lists these facts with their values, and shows this text, by what comes of its request over them.
 fn verdict_over(
     alloc: Global,
-    version: Version,
     facts: &[Fact],
     values: &[i64],
-    request: &Request,
+    checked: &Checked,
     text: &[u8],
 ) -> Result<Verdict, AllocError>
     requires same { length facts.now ≡ length values.now }
     requires distinct { IsTrue (are_distinct facts.now) }
     requires known { AreFactValues values.now }
     requires few { length facts.now < 2 ^ 32 }
-    requires possible { IsTrue (is_possible request.now) }
-    requires in_reach { IsTrue (is_in_reach version request.now) }
     ensures verdict { IfOk result (λ v. v ≡ spec.verdict_on_trace facts.now
-        (spec.trace_after facts.now values.now [] (rule_of version request.now)) text.now) }
+        (spec.trace_after facts.now values.now [] (rule_of checked.now.version
+        checked.now.request)) text.now) }
 {
     let mut oracle = Listed::new(alloc, facts, values);
-    match resolve(&mut oracle, request, version) {
+    match resolve_checked(&mut oracle, checked) {
         Ok(found) => verdict_by_list(alloc, oracle.asked(), facts, found, text),
         Err(stop) => verdict_at(stop),
     }
@@ -62,7 +58,7 @@ fn verdict_for(
     alloc: Global,
     file: &CertFile,
     answers: &Answers,
-    request: &Request,
+    checked: &Checked,
     text: &[u8],
     numbers: &[u32],
 ) -> Result<Verdict, AllocError>
@@ -70,9 +66,9 @@ fn verdict_for(
     requires known { AreFactValues (spec.values_of file.now.facts) }
     requires numbers { IsTrue (are_of_facts (length file.now.facts) [] numbers.now) }
     requires answered { length answers.now ≡ length file.now.facts }
-    requires possible { IsTrue (is_possible request.now) }
-    requires in_reach { IsTrue (is_in_reach file.now.version request.now) }
-    ensures verdict { IfOk result (λ v. v ≡ spec.verdict_on_request file.now.version (Ok request.now)
+    requires version { checked.now.version ≡ file.now.version }
+    ensures verdict { IfOk result (λ v. v ≡ spec.verdict_on_request file.now.version
+        (Ok checked.now.request)
         (spec.first_unanswered file.now.facts answers.now numbers.now)
         (spec.numbered file.now.facts numbers.now) text.now) }
 {
@@ -81,7 +77,7 @@ fn verdict_for(
         None => {
             let facts = listed_facts(alloc, &file.facts, numbers)?;
             let values = listed_values(alloc, &file.facts, numbers)?;
-            verdict_over(alloc, file.version, &facts, &values, request, text)
+            verdict_over(alloc, &facts, &values, checked, text)
         }
     }
 }
@@ -107,8 +103,8 @@ fn verdict_of_words(
         date: echo.date(),
         to: echo.to(),
     };
-    match read_words(words, file.version) {
-        Ok(request) => verdict_for(alloc, file, answers, &request, text, numbers),
+    match check_words(words, file.version) {
+        Ok(checked) => verdict_for(alloc, file, answers, &checked, text, numbers),
         Err(rule) => Ok(Verdict::No(Reason::Form(rule.number()))),
     }
 }

@@ -1,4 +1,5 @@
--- The words of a line that breaks no rule.
+-- The words of a line that breaks no rule. Such a line is plain (Requests), and each byte of a plain line that isn't
+-- blank is one that a word may hold, so SpacedWords says it of all its words.
 use Rattle.std.specs.Prelude.{◌≡◌, ℕ, nat_le, List, length, Ok}
 use Rattle.std.specs.List.{list_all}
 use Rattle.book_model.specs.declared.request.Request.{Request}

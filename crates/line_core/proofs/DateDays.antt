@@ -1,4 +1,6 @@
--- The day of a date that a line names.
+-- The day of a date that a line names. civil_core says when it finds a day and which, of a signed year and of numbers
+-- of its own types; each number of the line is the same number there, so both statements are rewritten into those of
+-- the definitions. No day is computed here.
 use Rattle.std.specs.Prelude.{◌≡◌, ◌↔◌, ℕ, ℤ, pos, Result, Ok, Err, IsSome, IfSome, IfOk, IsOk, IsTrue}
 use Rattle.std.proofs.Common.{sym}
 use Rattle.std.specs.Result.{result_ok}

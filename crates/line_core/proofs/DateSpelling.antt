@@ -1,4 +1,7 @@
--- The text of a date is read as its numbers.
+-- The text of a date is read as its numbers. A numeral is any one to seven digits with a value, so that numbers with
+-- and without leading zeros are one case. Digits hold no dash: by induction over them the parts of numerals with dashes
+-- between them are the numerals, each of which is read as its number. Last it is shown of each form in which a date is
+-- written that it is such numerals, by the number of its fields.
 use Rattle.std.proofs.Common.{◌≡◌, ◌∙◌, ℕ, zero, suc, ◌+◌, ◌-◌, ◌*◌, ◌<◌, ◌≤◌, Bool, true, false, List, [], ◌∷◌, ◌++◌}
 use Rattle.std.proofs.Common.{length, length-append, map, take, replicate, ap, refl, arith, nat_lt, decimal, pos}
 use Rattle.std.proofs.lemmas.Bool.Decides.{nat_tests}

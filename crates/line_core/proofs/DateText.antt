@@ -1,4 +1,7 @@
--- The parts of a date's text, and the numbers that digits spell.
+-- The parts of a date's text, and the numbers that digits spell. The definition goes byte by byte, the code by the
+-- place of the first dash: an induction over the bytes says that the first part ends at that place, and that a text
+-- without a dash is one part. What std says of a search for a place is turned into that by its two cases. The bounds of
+-- a number by its digits are powers of ten that rise.
 use Rattle.std.proofs.Common.{◌≡◌, ℕ, zero, suc, ◌+◌, ◌-◌, ◌^◌, ◌<◌, ◌≤◌, Bool, true, false, cond, List, [], ◌∷◌}
 use Rattle.std.proofs.Common.{length, take, drop, ap, refl, arith, nat_lt}
 use native.Mathlib.Numerals.{unary_clauses}

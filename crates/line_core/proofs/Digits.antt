@@ -1,4 +1,6 @@
--- The digits of a number spell it, with leading zeros too.
+-- The digits of a number spell it, with leading zeros too. The digits of a number are those of its tenth and one digit
+-- more: all that is to be said of them is one record (Spells), which holds of a single digit and is kept by one digit
+-- more; an induction of std over such steps gives it of every number.
 use Rattle.std.proofs.Common.{◌≡◌, ℕ, ◌+◌, ◌-◌, ◌*◌, ◌/◌, ◌%◌, ◌^◌, ◌<◌, ◌≤◌, Bool, true, false, List, [], ◌∷◌, ◌++◌}
 use Rattle.std.proofs.Common.{length, length-append, get_or, refl, arith, nat_lt, decimal}
 use Rattle.std.proofs.lemmas.Bool.Decides.{nat_tests}

@@ -1,4 +1,5 @@
--- What the calendars of the Chinese rules may be asked.
+-- What the calendars of the Chinese rules may be asked. Their rows and that of the Chinese calendar differ in the name
+-- alone, so the condition unfolds to the same statement over the same numbers, and stands as it is.
 use Rattle.book_model.specs.declared.calendar.Calendar.TheVariants.{Chinese, Vietnamese, Korean, Japanese}
 use Rattle.book_model.specs.declared.request.Fields.{Fields}
 use Rattle.book_model.specs.calendars.Dates.{may_have, has_some_year, year_number, IsAskable}

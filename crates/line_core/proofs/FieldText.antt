@@ -1,4 +1,7 @@
--- The fields that the parts of a date spell, read one by one.
+-- The fields that the parts of a date spell, read one by one. The loop's invariant is an equation: the numbers that
+-- were read, written into the five values, followed by those that the rest spells, are what the whole text spells. A
+-- further number keeps it, a part that is no number makes both sides nothing, and where no part is left it says the
+-- fields. A sixth part is settled by the count of fields that a calendar has.
 use Rattle.std.proofs.Common.{◌≡◌, ℕ, suc, ◌+◌, ◌≤◌, false, List, [], ◌∷◌, length, set, ℤ, pos, ap, sym, ◌∙◌, refl}
 use Rattle.std.proofs.Common.{arith}
 use Rattle.std.specs.Prelude.{◌==◌, Some, None, Option, MatchOption}

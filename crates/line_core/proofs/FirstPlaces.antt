@@ -1,4 +1,6 @@
--- The first place where a test passes, as a search for bytes tells it.
+-- The first place where a test passes, as a search for bytes tells it. memchr tells of each place before the one that
+-- it found that the byte isn't there; the definitions count the bytes in front. By induction over the bytes both name
+-- one place, once where a byte is found and once where none is.
 use Rattle.std.proofs.Common.{◌≡◌, ℕ, zero, suc, ◌+◌, Bool, true, false, cond, List, [], ◌∷◌, length, nat_lt, refl}
 use Rattle.std.proofs.Common.{arith}
 use borrow.Author.Tests.{ltb-true, ltb-false}

@@ -1,4 +1,5 @@
--- The fields of the date of a day.
+-- The fields of the date of a day. civil_core gives year, month and day as those of the definition's day; each is small
+-- enough to be its own nearest number of 32 bits, so the fields are equal by rewriting.
 use Rattle.std.proofs.Common.{◌≡◌, ℕ, ℤ, pos, negsuc, ◌≤ℤ◌, [], ◌∷◌, refl, arith}
 use Rattle.std.proofs.lemmas.Int.{ints}
 use Rattle.book_model.specs.declared.request.Fields.{Fields}

@@ -1,4 +1,6 @@
--- The first line, and the others.
+-- The first line, and the others. The definition of lines goes byte by byte, the code from line feed to line feed: by
+-- induction over the bytes, with the step's test as an argument so that both its cases compute, the first line ends at
+-- the first line feed, and without one all the bytes are one line.
 use Rattle.std.proofs.Common.{◌≡◌, ℕ, suc, ◌+◌, ◌<◌, ◌≤◌, Bool, true, false, cond, List, [], ◌∷◌, length, take, drop}
 use Rattle.std.proofs.Common.{ap, refl, arith, nat_lt}
 use native.Mathlib.Numerals.{unary_clauses}

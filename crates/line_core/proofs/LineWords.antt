@@ -1,4 +1,7 @@
--- The words of a line, cut off one by one.
+-- The words of a line, cut off one by one. The definition goes byte by byte, the code by two searches: for the first
+-- byte that isn't blank, and from there for the first that is. By induction over the bytes leading blanks change no
+-- word, and the first word ends at the first blank; each step takes its test as an argument, so that both cases
+-- compute.
 use Rattle.std.proofs.Common.{◌≡◌, ◌∙◌, ℕ, suc, ◌+◌, Bool, true, false, List, [], ◌∷◌, length, take, drop, get_or, ap}
 use Rattle.std.proofs.Common.{refl, arith}
 use Rattle.std.specs.Prelude.{Some, None, not}

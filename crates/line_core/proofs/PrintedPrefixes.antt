@@ -1,4 +1,6 @@
--- The word with which a line begins.
+-- The word with which a line begins. By induction over the bytes all before the first that a word may not hold are a
+-- word's, so what stands before that place is a word where it isn't empty. A line cut at two spaces is then put
+-- together again by the rules of lists.
 use Rattle.std.proofs.Common.{◌≡◌, ◌∙◌, ℕ, suc, ◌+◌, ◌<◌, ◌≤◌, Bool, true, false, List, [], ◌∷◌, ◌++◌, length, take}
 use Rattle.std.proofs.Common.{drop, get_or, append-nil, refl, sym, ap, arith}
 use Rattle.std.proofs.lemmas.List.{drop_more, length-take-le, take-append-drop, take_all}

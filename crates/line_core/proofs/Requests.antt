@@ -1,4 +1,6 @@
--- What a line asks, by its words.
+-- What a line asks, by its words. The definition tests the line, cuts its words and asks whether they are three: each
+-- lemma takes one outcome of a test as its premise, rewrites by it, and the rest computes. What a request says of its
+-- line is read off by cases of the same tests.
 use Rattle.std.specs.Prelude.{◌≡◌, ℕ, ◌&&◌, nat_le, Bool, true, false, List, [], ◌∷◌, length, Ok, Err, if◌then◌else◌}
 use Rattle.std.specs.Prelude.{refl}
 use Rattle.std.specs.List.{list_all}

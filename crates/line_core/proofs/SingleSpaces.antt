@@ -1,4 +1,6 @@
--- What three words ask, by the line that they are with single spaces.
+-- What three words ask, by the line that they are with single spaces. The line isn't built: its length is the sum of
+-- the words' and two, its bytes are plain and its words are the three by SpacedWords, so that the lemmas of Requests
+-- apply to it.
 use Rattle.std.proofs.Common.{◌≡◌, ℕ, ◌+◌, true, false, List, [], ◌∷◌, ◌++◌, length, length-append, append-nil, refl}
 use Rattle.std.proofs.Common.{arith}
 use Rattle.std.specs.List.{list_all}

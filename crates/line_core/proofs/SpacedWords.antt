@@ -1,4 +1,7 @@
--- Words with single spaces between them: their words again, and each of their bytes; and the words of any line.
+-- Words with single spaces between them: their words again, and each of their bytes; and the words of any line. What a
+-- byte of a word isn't, as a blank or a line feed, is one record that arithmetic gives from its range; with it the
+-- definition of words computes along a word's bytes, by induction, and along the words. Of a plain line the same
+-- induction says that its words are words.
 use Rattle.std.proofs.Common.{◌≡◌, ◌∙◌, ℕ, Bool, true, false, List, [], ◌∷◌, ◌++◌, ap, refl, arith}
 use Rattle.std.proofs.lemmas.Bool.Decides.{nat_tests}
 use Rattle.std.proofs.lemmas.List.Folds.{list_all-append}

@@ -1,4 +1,7 @@
--- The line of a request is read as the request.
+-- The line of a request is read as the request. The words of the tables are words of at most 20 bytes, by computing
+-- each; the date is the numeral of its numbers (DateSpelling), at most 40 bytes; so the line is short and its three
+-- words are read again (SingleSpaces). What remains is the definition's own check of words and date, by cases of
+-- whether the version has the words.
 use Rattle.std.proofs.Common.{◌≡◌, ◌∙◌, ℕ, ◌≤◌, true, false, List, [], ◌∷◌, length, sym, refl, arith}
 use Rattle.std.proofs.lemmas.Bool.Decides.{nat_tests}
 use Rattle.std.specs.List.{list_all}

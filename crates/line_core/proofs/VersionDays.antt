@@ -1,5 +1,7 @@
 -- The days that a line of the written version may name: the calendars of its words tell their dates, and facts may be
--- asked of them.
+-- asked of them. The bounds of the version are computed once (IsWrittenDay), and each condition of a call above follows
+-- from them and from the first day of a word by arithmetic, by cases of what the word means, with no case for a
+-- calendar.
 use Rattle.std.proofs.Common.{◌≡◌, arith}
 use Rattle.std.proofs.lemmas.Int.{ints}
 use Rattle.std.specs.Prelude.{IsTrue, ℤ, pos, ◌≤ℤ◌}

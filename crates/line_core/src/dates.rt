@@ -3,6 +3,8 @@ ghost use Rattle.std.specs.Prelude.{◌≡◌, IsTrue, IfOk, MatchOption, true, 
 ghost use Rattle.book_model.specs.calendars.Dates as spec;
 ghost use Rattle.book_model.specs.calendars.Moving.{at_place};
 ghost use Rattle.book_model.specs.lines.Requests.{ranged, checked, fields_of};
+ghost use Rattle.line_core.specs.Days as days;
+ghost use Rattle.line_core.specs.Checking.{date_in};
 ghost use Rattle.moved_oracle.specs.Moving.{is_moved_to};
 ghost use Rattle.oracle_core.specs.Asking.{Asks};
 
@@ -24,59 +26,69 @@ fn fixed_day(date: &Fields) -> i64
 
 // Only Gregorian dates and day numbers are judged here, whose days are known without any fact; the rows of these two calendars
 // refuse no year.
-/// Whether the day of a date lies in the reach of a line, from its first to its last day, where it is known without any fact; `None`
-/// where the month of the date hasn't this day.
-fn has_day_in_reach(reach: (i64, i64), calendar: Calendar, date: &Fields) -> Option<bool>
+/// The day (R.D.) of a date, where it is known without any fact, and else 0, and whether it lies in the reach of a line, from its
+/// first to its last day, where it is known; `None` where the month of the date hasn't this day.
+pub(crate) fn known_day(reach: (i64, i64), calendar: Calendar, date: &Fields) -> Option<(i64, bool)>
     ensures day { MatchOption result (spec.has_day_of_month calendar date.now ≡ false)
-        (λ near. (spec.has_day_of_month calendar date.now ≡ true)
-        × (near ≡ spec.has_day_in_reach reach calendar date.now)) }
+        (λ p. (spec.has_day_of_month calendar date.now ≡ true)
+        × (p.0 ≡ days.known_day calendar date.now)
+        × (p.1 ≡ spec.has_day_in_reach reach calendar date.now)) }
 {
     match calendar {
-        Calendar::Gregorian => Some(is_within(reach, gregorian_day(date)?)),
-        Calendar::Fixed => Some(is_within(reach, fixed_day(date))),
-        _ => Some(true),
+        Calendar::Gregorian => {
+            let day = gregorian_day(date)?;
+            Some((day, is_within(reach, day)))
+        }
+        Calendar::Fixed => {
+            let day = fixed_day(date);
+            Some((day, is_within(reach, day)))
+        }
+        _ => Some((0, true)),
     }
 }
 
 // One rule for all calendars. A date whose day is found by facts is judged twice: by its year first (`refused 4`), and by its day
 // once that is computed (`refused 4 DAY`, with the facts that say so).
-/// A date of a calendar itself, where it is one that a line of a version answers, which may name the days from the first to the last
-/// of its reach, as far as that can be told without any fact: `Field` where the calendar can have no such date, `Range` where it is
-/// out of range.
+/// A date of a calendar itself, with its day where that is known without any fact, if it is one that a line of a version answers,
+/// which may name the days from the first to the last of its reach, as far as that can be told without any fact: `Field` where the
+/// calendar can have no such date, `Range` where it is out of range.
 #[tactic(auto, unfolding(book_model::specs::calendars::Dates::may_have, book_model::specs::calendars::Dates::is_answered))]
 pub(crate) fn checked_date(
     version: Version,
     reach: (i64, i64),
     calendar: Calendar,
     date: &Fields,
-) -> Result<Fields, Rule>
-    ensures date { result ≡ ranged version reach calendar (checked calendar date.now) }
-    ensures possible { IfOk result (λ f. IsTrue (spec.may_have calendar f)) }
-    ensures in_reach { IfOk result (λ f. IsTrue (spec.is_answered version reach calendar f)) }
+) -> Result<(Fields, i64), Rule>
+    ensures date { date_in result ≡ ranged version reach calendar (checked calendar date.now) }
+    ensures known { IfOk result (λ p. p.1 ≡ days.known_day calendar p.0) }
+    ensures possible { IfOk result (λ p. IsTrue (spec.may_have calendar p.0)) }
+    ensures in_reach { IfOk result (λ p. IsTrue (spec.is_answered version reach calendar p.0)) }
 {
     let row = calendar.row();
     if date.count != row.count || !are_within(&row, date) {
         return Err(Rule::Field);
     }
-    let is_near = has_day_in_reach(reach, calendar, date).ok_or(Rule::Field)?;
+    let (day, is_near) = known_day(reach, calendar, date).ok_or(Rule::Field)?;
     if is_near && has_year(version, &row, date) {
-        Ok(*date)
+        Ok((*date, day))
     } else {
         Err(Rule::Range)
     }
 }
 
-/// The date that a word spells in a calendar, where it is one that such a line answers, as far as that can be told without any fact:
-/// `Field` where the calendar can have no such date, `Range` where it is out of range.
+/// The date that a word spells in a calendar, with its day where that is known without any fact, if it is one that such a line
+/// answers, as far as that can be told without any fact: `Field` where the calendar can have no such date, `Range` where it is out of
+/// range.
 pub(crate) fn ranged_date(
     version: Version,
     reach: (i64, i64),
     calendar: Calendar,
     date: &[u8],
-) -> Result<Fields, Rule>
-    ensures date { result ≡ ranged version reach calendar (fields_of calendar date.now) }
-    ensures possible { IfOk result (λ f. IsTrue (spec.may_have calendar f)) }
-    ensures in_reach { IfOk result (λ f. IsTrue (spec.is_answered version reach calendar f)) }
+) -> Result<(Fields, i64), Rule>
+    ensures date { date_in result ≡ ranged version reach calendar (fields_of calendar date.now) }
+    ensures known { IfOk result (λ p. p.1 ≡ days.known_day calendar p.0) }
+    ensures possible { IfOk result (λ p. IsTrue (spec.may_have calendar p.0)) }
+    ensures in_reach { IfOk result (λ p. IsTrue (spec.is_answered version reach calendar p.0)) }
 {
     let fields = spelled_fields(date).ok_or(Rule::Field)?;
     checked_date(version, reach, calendar, &fields)
@@ -97,14 +109,6 @@ pub(crate) fn have_same_fields(date: &Fields, other: &Fields) -> bool
     ensures same { result ≡ spec.are_same_fields date.now other.now }
 {
     date.count == other.count && date.values == other.values
-}
-
-/// The day (R.D.) of a Gregorian date that the calendar has.
-pub(crate) fn day_of_gregorian(date: &Fields) -> i64
-    requires possible { IsTrue (spec.may_have Calendar.Gregorian date.now) }
-    ensures day { result ≡ spec.gregorian_day date.now }
-{
-    gregorian_day(date).unwrap()
 }
 
 /// The day (R.D.) that the fields of a date name whose day is found by facts. It returns early where the oracle does.
@@ -168,23 +172,19 @@ macro_rules! by_calendar {
     };
 }
 
-/// The day (R.D.) that a date names. It returns early where the oracle does.
+/// The day (R.D.) that a date names, which is this one where it is known without any fact. It returns early where the oracle does.
 #[tactic(auto, using(oracle_core::proofs::Inquiring::asking))]
 pub(crate) fn named_day<O: Oracle>(
     oracle: &mut O,
     calendar: Calendar,
     date: &Fields,
+    day: i64,
 ) -> Result<i64, Stop>
+    requires known { day ≡ days.known_day calendar date.now }
     requires askable { spec.IsAskable calendar date.now }
     ensures comes { Asks O.Oracle (spec.day_named calendar date.now) oracle.old oracle.new result }
 {
-    by_calendar!(
-        calendar,
-        day_of_gregorian(date),
-        fixed_day(date),
-        day_by,
-        day_at(oracle, date)
-    )
+    by_calendar!(calendar, day, day, day_by, day_at(oracle, date))
 }
 
 /// The date of a day (R.D.) whose date the calendar tells. It returns early where the oracle does.

@@ -5,7 +5,10 @@ ghost use Rattle.book_model.specs.lines.Lines as spec;
 ghost use Rattle.book_model.specs.lines.Requests.{request_of, with_words, is_possible, is_in_reach};
 ghost use Rattle.book_model.specs.lines.Text.{three_words_text};
 ghost use Rattle.book_model.specs.lines.Words.{from_word_in, to_word_in};
+ghost use Rattle.book_model.specs.declared.version.Version.{Version as VersionOf};
+ghost use Rattle.line_core.specs.Checking.{request_in as found_in};
 
+use crate::checked::Checked;
 use crate::dates::ranged_date;
 use crate::reach::reach_of;
 use book_model::{FromWord, Request, Rule, ToWord, Version};
@@ -163,21 +166,22 @@ pub fn three_words<'a>(line: &'a [u8]) -> Option<ThreeWords<'a>>
 }
 
 /// What three words ask.
-fn asked(words: ThreeWords<'_>, version: Version) -> Result<Request, Rule>
-    ensures asked { result ≡ with_words version (from_word_in version words.entry.from.now)
+fn asked(words: ThreeWords<'_>, version: Version) -> Result<Checked, Rule>
+    ensures asked { found_in result ≡ with_words version (from_word_in version words.entry.from.now)
         words.entry.date.now (to_word_in version words.entry.to.now) }
-    ensures possible { IfOk result (λ r. IsTrue (is_possible r)) }
-    ensures in_reach { IfOk result (λ r. IsTrue (is_in_reach version r)) }
+    ensures version { IfOk result (λ c. c.version ≡ version) }
 {
     let from = FromWord::named_in(version, words.from).ok_or(Rule::Calendar)?;
     let to = ToWord::named_in(version, words.to).ok_or(Rule::Calendar)?;
-    let date = ranged_date(
+    let reach = reach_of(version, from, to);
+    let (date, day) = ranged_date(version, reach, from.calendar(), words.date)?;
+    let request = Request { from, date, to };
+    Ok(Checked {
+        request,
         version,
-        reach_of(version, from, to),
-        from.calendar(),
-        words.date,
-    )?;
-    Ok(Request { from, date, to })
+        day,
+        reach,
+    })
 }
 
 /// Whether three words with single spaces between them are short enough to be read.
@@ -190,8 +194,38 @@ fn are_short(words: &ThreeWords<'_>) -> bool
     length.saturating_add(words.to.len()) <= LONGEST_LINE - 2
 }
 
+/// The request of what was checked, without what was found beside it.
+fn request_in(checked: Result<Checked, Rule>) -> Result<Request, Rule>
+    ensures request { result ≡ found_in checked }
+    ensures possible { IfOk result (λ r. IsTrue (is_possible r)) }
+    ensures in_reach { (v : VersionOf) → IfOk checked (λ c. c.version ≡ v)
+        → IfOk result (λ r. IsTrue (is_in_reach v r)) }
+{
+    match checked {
+        Ok(checked) => Ok(checked.request),
+        Err(rule) => Err(rule),
+    }
+}
+
 // What the line with single spaces asks, so that `check` puts no line together again. That the
 // words are of printable bytes `Echo` says by its type.
+/// What three words ask, each of one byte or more from 0x21 to 0x7E, with what their check finds, or the first rule of a version
+/// that their line breaks, as `read_words` gives it.
+pub fn check_words(words: ThreeWords<'_>, version: Version) -> Result<Checked, Rule>
+    requires from { spec.IsWord words.from.now }
+    requires date { spec.IsWord words.date.now }
+    requires to { spec.IsWord words.to.now }
+    ensures request { found_in result ≡ request_of version (three_words_text words.entry.from.now
+        words.entry.date.now words.entry.to.now) }
+    ensures version { IfOk result (λ c. c.version ≡ version) }
+{
+    if are_short(&words) {
+        asked(words, version)
+    } else {
+        Err(Rule::Syntax)
+    }
+}
+
 /// What three words ask, each of one byte or more from 0x21 to 0x7E, or the first rule of a version that their line
 /// breaks, in which single spaces stand between them: `Syntax` where it has more than 200 bytes; `Calendar` for a word that
 /// the version hasn't; `Field` where the calendar can have no such date; `Range` for a date that the version doesn't answer, as
@@ -205,18 +239,13 @@ pub fn read_words(words: ThreeWords<'_>, version: Version) -> Result<Request, Ru
     ensures possible { IfOk result (λ r. IsTrue (is_possible r)) }
     ensures in_reach { IfOk result (λ r. IsTrue (is_in_reach version r)) }
 {
-    if are_short(&words) {
-        asked(words, version)
-    } else {
-        Err(Rule::Syntax)
-    }
+    request_in(check_words(words, version))
 }
 
 /// What any line asks, or the first rule of a version that it breaks.
-fn read_any_line(bytes: &[u8], version: Version) -> Result<Request, Rule>
-    ensures request { result ≡ request_of version bytes.now }
-    ensures possible { IfOk result (λ r. IsTrue (is_possible r)) }
-    ensures in_reach { IfOk result (λ r. IsTrue (is_in_reach version r)) }
+fn check_any_line(bytes: &[u8], version: Version) -> Result<Checked, Rule>
+    ensures request { found_in result ≡ request_of version bytes.now }
+    ensures version { IfOk result (λ c. c.version ≡ version) }
 {
     if !is_readable(bytes) {
         return Err(Rule::Syntax);
@@ -224,6 +253,17 @@ fn read_any_line(bytes: &[u8], version: Version) -> Result<Request, Rule>
     match three_words(bytes) {
         Some(words) => asked(words, version),
         None => Err(Rule::Syntax),
+    }
+}
+
+/// What a line asks, with what its check finds, or the first rule of a version that it breaks, as `read_line` gives it.
+fn check_line(bytes: &[u8], version: Version) -> Result<Checked, Rule>
+    ensures request { found_in result ≡ request_of version bytes.now }
+    ensures version { IfOk result (λ c. c.version ≡ version) }
+{
+    match spaced_words(bytes) {
+        Some(words) => check_words(words, version),
+        None => check_any_line(bytes, version),
     }
 }
 
@@ -236,8 +276,5 @@ pub fn read_line(bytes: &[u8], version: Version) -> Result<Request, Rule>
     ensures possible { IfOk result (λ r. IsTrue (is_possible r)) }
     ensures in_reach { IfOk result (λ r. IsTrue (is_in_reach version r)) }
 {
-    match spaced_words(bytes) {
-        Some(words) => read_words(words, version),
-        None => read_any_line(bytes, version),
-    }
+    request_in(check_line(bytes, version))
 }

@@ -19,7 +19,7 @@ pub fn checked_request(request: &Request, version: Version) -> Result<Request, R
         return Err(Rule::Calendar);
     }
     let reach = reach_of(version, request.from, request.to);
-    let date = checked_date(version, reach, request.from.calendar(), &request.date)?;
+    let (date, _) = checked_date(version, reach, request.from.calendar(), &request.date)?;
     Ok(Request {
         from: request.from,
         date,

@@ -10,7 +10,8 @@ ghost use Rattle.book_model.specs.sky.Facts.{IsFactDay};
 ghost use Rattle.line_core.specs.Days.{IsTold};
 ghost use Rattle.oracle_core.specs.Asking.{Asks};
 
-use crate::dates::{date_on, day_of_gregorian, have_same_fields, named_day, one_field};
+use crate::checked::Checked;
+use crate::dates::{date_on, have_same_fields, known_day, named_day, one_field};
 use crate::reach::{is_within, reach_of};
 use book_model::{
     Calendar, Fact, Fields, FromWord, Kind, Meaning, Place, Request, Resolved, ToWord, Version,
@@ -115,51 +116,67 @@ fn resolve_within<O: Oracle>(oracle: &mut O, request: &Request, day: i64) -> Res
 /// The result for a day (R.D.) that the date of a request names: `TooFar` where the line may not name it, and `NoDate` where
 /// the calendar of the request has another date for it. It returns early where the oracle does.
 #[tactic(auto, using(oracle_core::proofs::Inquiring::asking), unfolding(book_model::specs::lines::LineRules::result_of_day))]
-fn resolve_day<O: Oracle>(
-    oracle: &mut O,
-    request: &Request,
-    version: Version,
-    day: i64,
-) -> Result<Resolved, Stop>
-    ensures comes { Asks O.Oracle (spec.result_of_day version request.now day)
+fn resolve_day<O: Oracle>(oracle: &mut O, checked: &Checked, day: i64) -> Result<Resolved, Stop>
+    ensures comes { Asks O.Oracle (spec.result_of_day checked.now.version checked.now.request day)
         oracle.old oracle.new result }
 {
-    if is_within(reach_of(version, request.from, request.to), day) {
-        resolve_within(oracle, request, day)
+    if is_within(checked.reach, day) {
+        resolve_within(oracle, &checked.request, day)
     } else {
         Ok(Resolved::TooFar { day })
     }
 }
 
-/// The fact by whose value a word and a Gregorian date name a day.
+/// The fact by whose value a word and the day (R.D.) of a Gregorian date name a day.
 #[tactic(auto, using(book_model::proofs::WordTables::day_placed))]
-fn named_fact(from: FromWord, kind: Kind, place: Place, date: &Fields) -> Fact
+fn named_fact(from: FromWord, kind: Kind, place: Place, day: i64) -> Fact
     requires named { named_by from ≡ Meaning.Value kind place }
-    requires possible { IsTrue (dates.may_have Calendar.Gregorian date.now) }
-    requires day { IsFactDay (dates.gregorian_day date.now) }
-    ensures fact { result ≡ spec.fact_on kind place (dates.gregorian_day date.now) }
+    requires day { IsFactDay day }
+    ensures fact { result ≡ spec.fact_on kind place day }
 {
-    Fact::new(kind, place, day_of_gregorian(date)).unwrap()
+    Fact::new(kind, place, day).unwrap()
 }
 
 /// The day (R.D.) that the date of a request names: in a calendar, or by the value of a fact. It returns early where the oracle does.
 #[tactic(auto, using(oracle_core::proofs::Inquiring::asking))]
-fn day_of_request<O: Oracle>(
-    oracle: &mut O,
-    request: &Request,
-    version: Version,
-) -> Result<i64, Stop>
-    requires possible { IsTrue (is_possible request.now) }
-    requires in_reach { IsTrue (is_in_reach version request.now) }
-    ensures comes { Asks O.Oracle (spec.day_by (named_by request.now.from) request.now.date)
-        oracle.old oracle.new result }
+fn day_of_request<O: Oracle>(oracle: &mut O, checked: &Checked) -> Result<i64, Stop>
+    ensures comes { Asks O.Oracle (spec.day_by (named_by checked.now.request.from)
+        checked.now.request.date) oracle.old oracle.new result }
 {
+    let request = &checked.request;
     match request.from.names() {
-        Meaning::Date(calendar) => named_day(oracle, calendar, &request.date),
+        Meaning::Date(calendar) => named_day(oracle, calendar, &request.date, checked.day),
         Meaning::Value(kind, place) => {
-            let fact = named_fact(request.from, kind, place, &request.date);
+            let fact = named_fact(request.from, kind, place, checked.day);
             oracle.ask(fact)
         }
+    }
+}
+
+/// The result of a request that was checked, as `resolve` gives it: its day and its reach aren't computed again.
+#[tactic(auto, using(oracle_core::proofs::Inquiring::asking), unfolding(book_model::specs::lines::LineRules::rule_of))]
+pub fn resolve_checked<O: Oracle>(oracle: &mut O, checked: &Checked) -> Result<Resolved, Stop>
+    ensures comes { Asks O.Oracle (spec.rule_of checked.now.version checked.now.request)
+        oracle.old oracle.new result }
+{
+    let day = day_of_request(oracle, checked)?;
+    resolve_day(oracle, checked, day)
+}
+
+/// A request that breaks no rule of a version by itself, with what its check finds.
+fn checked_again(request: &Request, version: Version) -> Checked
+    requires possible { IsTrue (is_possible request.now) }
+    requires in_reach { IsTrue (is_in_reach version request.now) }
+    ensures request { result.request ≡ request.now }
+    ensures version { result.version ≡ version }
+{
+    let reach = reach_of(version, request.from, request.to);
+    let (day, _) = known_day(reach, request.from.calendar(), &request.date).unwrap();
+    Checked {
+        request: *request,
+        version,
+        day,
+        reach,
     }
 }
 
@@ -175,7 +192,6 @@ fn day_of_request<O: Oracle>(
 /// let Ok(request) = read_line(b"persian 1402-12-30 fixed", Version::Two) else { return; };
 /// let resolved = resolve(&mut oracle, &request, Version::Two)?; // NoDate: that day is the first of the year 1403
 /// ```
-#[tactic(auto, using(oracle_core::proofs::Inquiring::asking), unfolding(book_model::specs::lines::LineRules::rule_of))]
 pub fn resolve<O: Oracle>(
     oracle: &mut O,
     request: &Request,
@@ -185,6 +201,5 @@ pub fn resolve<O: Oracle>(
     requires in_reach { IsTrue (is_in_reach version request.now) }
     ensures comes { Asks O.Oracle (spec.rule_of version request.now) oracle.old oracle.new result }
 {
-    let day = day_of_request(oracle, request, version)?;
-    resolve_day(oracle, request, version, day)
+    resolve_checked(oracle, &checked_again(request, version))
 }

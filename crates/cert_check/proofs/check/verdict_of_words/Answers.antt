@@ -7,7 +7,7 @@ use Rattle.cert_check.proofs.check.verdict_of_words.Goals as goal
 pub returns-in-Ok : goal.returns-in-Ok
 unfolding verdict_on
 returns-in-Ok c =
-    let asked : Ok c.in-Ok.request ≡ request_of c.args.file.now.version (words_of_echo c.args.echo.now) = rw
+    let asked : Ok c.in-Ok.checked.request ≡ request_of c.args.file.now.version (words_of_echo c.args.echo.now) = rw
     (c.from.ensures.word, c.date.ensures.word, c.to.ensures.word) at c.in-Ok.ensures.request in
     record { verdict = rw (← asked) c.verdict_for.ensures.verdict }
 

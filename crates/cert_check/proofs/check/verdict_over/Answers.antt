@@ -10,7 +10,7 @@ verdict_by_list-requires-clause-within c =
       none = c.new-oracle.ensures.asked;
     } in
     rw c.asked.ensures.facts (asked_within c.args.facts.now c.args.values.now
-    (rule_of c.args.version c.args.request.now) _ _ _ fresh c.in-Ok.ensures.comes)
+    (rule_of c.args.checked.now.version c.args.checked.now.request) _ _ _ fresh c.in-Ok.ensures.comes)
 
 pub returns-in-Ok : goal.returns-in-Ok
 returns-in-Ok c =
@@ -20,8 +20,8 @@ returns-in-Ok c =
       none = c.new-oracle.ensures.asked;
     } in
     record {
-      verdict = traced_verdict c.args.facts.now c.args.values.now (rule_of c.args.version c.args.request.now) _ _
-          c.in-Ok.found c.args.text.now _ fresh
+      verdict = traced_verdict c.args.facts.now c.args.values.now
+          (rule_of c.args.checked.now.version c.args.checked.now.request) _ _ c.in-Ok.found c.args.text.now _ fresh
           c.in-Ok.ensures.comes (rw c.asked.ensures.facts at c.verdict_by_list.ensures.verdict);
     }
 
@@ -33,7 +33,7 @@ returns c =
       none = c.new-oracle.ensures.asked;
     } in
     record {
-      verdict = missing_verdict c.args.facts.now c.args.values.now (rule_of c.args.version c.args.request.now) _ _
-          c.in-Err.stop c.args.text.now _ fresh
+      verdict = missing_verdict c.args.facts.now c.args.values.now
+          (rule_of c.args.checked.now.version c.args.checked.now.request) _ _ c.in-Err.stop c.args.text.now _ fresh
           c.in-Err.ensures.comes c.verdict_at.ensures.missing;
     }

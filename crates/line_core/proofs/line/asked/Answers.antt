@@ -7,7 +7,7 @@ pub returns-clause-asked : goal.returns-clause-asked
 returns-clause-asked c =
     let from : from_word_in c.args.version c.args.words.from.now ≡ Some c.in_ok-from.from = search rules in
     let to : to_word_in c.args.version c.args.words.to.now ≡ Some c.in_ok-to.to = search rules in
-    let date = rw (c.reach_of.ensures.reach, c.calendar.ensures.calendar) at c.in_ok-date.ensures.date in
+    let date = rw (c.reach_of-reach.ensures.reach, c.calendar.ensures.calendar) at c.in_ok-date.ensures.date in
     rw (from, to, ← date) refl
 
 pub returns-in_err-from-clause-asked : goal.returns-in_err-from-clause-asked
@@ -18,9 +18,3 @@ returns-in_err-to-clause-asked c = grind arith
 
 pub returns-in_err-date-clause-asked : goal.returns-in_err-date-clause-asked
 returns-in_err-date-clause-asked c = grind arith
-
-pub returns-clause-possible : goal.returns-clause-possible
-returns-clause-possible c = grind arith
-
-pub returns-clause-in_reach : goal.returns-clause-in_reach
-returns-clause-in_reach c = grind arith

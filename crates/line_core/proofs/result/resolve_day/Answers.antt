@@ -8,11 +8,10 @@ use Rattle.line_core.proofs.result.resolve_day.Goals as goal
 pub resolve_within-requires : goal.resolve_within-requires
 resolve_within-requires g c =
     let fits : SFits w64 c.args.day = c.ranges.day in
-    let range = rw c.reach_of.ensures.reach at (simp to_z-of_z at c.if-is_within.ensures.within) in
-    record {
-      reached = simp to_z-of_z (later_days c.args.version c.args.request.now.from c.args.request.now.to
-          c.args.day (sym range));
-    }
+    let asked = c.args.checked.now.request in
+    let range = rw c.args.checked.now.reached at (simp to_z-of_z at c.if-is_within.ensures.within) in
+    let reached = later_days c.args.checked.now.version asked.from asked.to c.args.day (sym range) in
+    record { reached = simp to_z-of_z reached }
 
 pub returns-then-is_within : goal.returns-then-is_within
 unfolding result_of_day

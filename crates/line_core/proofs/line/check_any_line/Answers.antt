@@ -1,6 +1,6 @@
 use Rattle.std.proofs.Common.{◌∙◌, sym}
 use Rattle.line_core.proofs.Requests.{asked_unreadable, asked_other, asked_three}
-use Rattle.line_core.proofs.line.read_any_line.Goals as goal
+use Rattle.line_core.proofs.line.check_any_line.Goals as goal
 
 pub returns-then-not-is_readable-clause-request : goal.returns-then-not-is_readable-clause-request
 returns-then-not-is_readable-clause-request c = asked_unreadable c.args.version c.args.bytes.now

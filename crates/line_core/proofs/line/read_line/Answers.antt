@@ -1,0 +1,4 @@
+use Rattle.line_core.proofs.line.read_line.Goals as goal
+
+pub returns-clause-in_reach : goal.returns-clause-in_reach
+returns-clause-in_reach c = c.request_in.ensures.in_reach c.args.version c.check_line.ensures.version
