@@ -1,4 +1,7 @@
--- Counts of years and their days: the quotients that they are, and how large they get.
+-- Counts of years and their days: the quotients that they are, and how large they get. Each count unfolds, by
+-- computing, to one quotient of whole numbers rounded down; what such a quotient is bounds it then, by linear
+-- arithmetic from the bounds of what is divided. The limits are wide, since they only keep the code's numbers in their
+-- types.
 use Rattle.std.specs.Prelude.{◌≡◌, ℤ, pos, negsuc, ◌+ℤ◌, ◌-ℤ◌, ◌*ℤ◌, ◌≤ℤ◌, refl}
 use Rattle.std.proofs.Common.{arith}
 use Rattle.std.proofs.lemmas.Int.{ints}

@@ -1,4 +1,7 @@
--- What is cached beside an oracle stays known while it is asked.
+-- What is cached beside an oracle stays known while it is asked. A cached fact carries that it was asked and what it
+-- was answered. Facts that were asked stay so, by induction over what an inquiry tells, and what an oracle knows never
+-- changes: so each cached fact stays right through any inquiry, and may be answered with nothing asked, as if it had
+-- been asked again.
 use Rattle.std.proofs.Common.{◌≡◌, ◌∙◌, ℕ, zero, suc, Bool, true, false, ◌||◌, refl, sym, ap, arith, ℤ, List, [], ◌∷◌}
 use Rattle.std.proofs.Common.{◌++◌, if◌then◌else◌, slice_set}
 use Rattle.std.specs.Prelude.{Result, Ok, Option, Some, None, ◌⊎◌}

@@ -1,4 +1,6 @@
--- The recursion over the months before one is a walk back over them, and then forwards, for every table.
+-- The recursion over the months before one is a walk back over them, and then forwards, for every table. Inquiries are
+-- compared as programs, so nothing is assumed of the answers: two of them may be regrouped, and by induction on the
+-- number of calls the recursion is the list of months that a walk back collects, tested in order.
 use Rattle.std.proofs.Common.{◌≡◌, ◌∙◌, ℕ, zero, suc, ◌-◌, ◌<◌, ◌≤◌, arith, Bool, true, false, refl, sym, ℤ, pos, List}
 use Rattle.std.proofs.Common.{[], ◌∷◌, length, take, drop, slice_index_or, if◌then◌else◌, int_lt}
 use Rattle.std.proofs.Math.Seq.{take-length}

@@ -1,4 +1,6 @@
--- The days of so many twelfths of sidereal years: the quotient that they are, and how large they get.
+-- The days of so many twelfths of sidereal years: the quotient that they are, and how large they get. The count
+-- unfolds, by computing, to one quotient of whole numbers rounded down; what such a quotient is bounds it then, by
+-- linear arithmetic from the bounds of what is divided.
 use Rattle.std.specs.Prelude.{◌≡◌, ℤ, pos, negsuc, ◌*ℤ◌, ◌≤ℤ◌, refl}
 use Rattle.std.proofs.Common.{arith}
 use Rattle.std.proofs.lemmas.Int.{ints}

@@ -14,7 +14,7 @@ use crate::months::days_to_month;
 use book_model::calendar_tables::{HINDU_EPOCH, SAKA_ERA};
 use book_model::{Fields, Kind};
 use calendar_math::{to_8_bits, to_32_bits};
-use oracle_core::{CalendarDate, Oracle, Stop};
+use oracle_core::{CalendarDate, Oracle, Stop, three_fields, year_month_day};
 
 /// A date of the Hindu solar calendar; the year counts in the Saka era.
 #[derive(Clone, Copy, Debug, PartialEq, Eq)]
@@ -122,20 +122,13 @@ impl CalendarDate for HinduSolar {
     ghost fields_of = { fields_of_solar };
 
     fn fields(self) -> Fields {
-        Fields {
-            count: 3,
-            values: [self.year, i32::from(self.month), i32::from(self.day), 0, 0],
-        }
+        three_fields(self.year, self.month, self.day)
     }
 
     #[tactic(auto, unfolding(book_model::specs::calendars::Dates::may_have, book_model::specs::calendars::Dates::has_some_year, book_model::specs::calendars::Dates::year_number))]
     fn day_by<O: Oracle>(oracle: &mut O, fields: &Fields) -> Result<i64, Stop> {
-        let date = HinduSolar {
-            year: fields.field(0) as i32,
-            month: fields.field(1) as u8,
-            day: fields.field(2) as u8,
-        };
-        to_fixed(oracle, date)
+        let (year, month, day) = year_month_day(fields);
+        to_fixed(oracle, HinduSolar { year, month, day })
     }
 
     fn of_day<O: Oracle>(oracle: &mut O, day: i64) -> Result<Self, Stop> {
