@@ -1,5 +1,8 @@
--- Verdicts, one further.
-use Rattle.std.proofs.Common.{◌≡◌, ◌⊎◌, inl, inr, ℕ, suc, ℤ, ◌+◌, ◌<◌, ◌≤◌, ◌==◌, ◌&&◌, Bool, true, false, cond, List}
+-- Verdicts, one further. The loop's invariant is an equation: what was written, what waits, the verdicts of the lines
+-- that are left and the counts are the whole text; and each count, with those of the lines left, is the whole count.
+-- The lemmas take one line from the rest, put it behind what waits, and say what is there at the end and, where a write
+-- fails, that it is a prefix. The others join what a file and its reading say to what comes of bytes.
+use Rattle.std.proofs.Common.{◌≡◌, inl, inr, ℕ, suc, ℤ, ◌+◌, ◌<◌, ◌≤◌, ◌==◌, ◌&&◌, Bool, true, false, cond, List}
 use Rattle.std.proofs.Common.{[], ◌∷◌, ◌++◌, length, drop, filter, get_or, map, refl}
 use Rattle.std.proofs.Common.{append_assoc, append-nil, arith}
 use Rattle.std.proofs.lemmas.Bool.Decides.{nat_tests}
@@ -29,7 +32,8 @@ use Rattle.conversion.specs.Writing.{Performs}
 use Rattle.run_core.specs.declared.check.Checked.{Checked}
 use Rattle.run_core.specs.declared.check.Checked.TheVariants.{AllYes, NotAll, BadText}
 use Rattle.run_core.specs.Checking.{verdict_text, verdicts_after, verdicts_of, verdicts_text, is_yes, is_no, is_skip}
-use Rattle.run_core.specs.Checking.{with_one, ChecksFile, Comes, RefusesText, TellsFail, CutsFail, bad_text, checked}
+use Rattle.run_core.specs.Checking.{with_one, AreVerdictsFrom, ChecksFile, Comes, RefusesText, TellsFail, CutsFail}
+use Rattle.run_core.specs.Checking.{bad_text, checked}
 
 -- what comes of one item more is added
 pub mapped_on : {X Y : Type 0} (f : X → Y) (ys now : List Y) (y : Y) (i : ℕ) (xs : List X) (d : X) (all : List Y)
@@ -87,6 +91,117 @@ pub verdicts_end : (a b : Option (List ℕ)) (t w : List ℕ) (i : ℕ) (left : 
     → Wrote a b t (w ++ (verdicts_after i left ++ counts)) → Wrote a b t (w ++ counts)
 verdicts_end a b t w i left counts none old = rw none at old
 
+-- where no verdict is left, all are counted
+pub all_counted : (p : Verdict → Bool) (n whole : ℕ) (left : List Verdict) → left ≡ []
+    → n + length (filter p left) ≡ whole → n ≡ whole
+all_counted p n whole left none h = let k : n + length (filter p []) ≡ whole = rw none at h in omega arith
+
+-- one more of the verdicts behind a count is put
+pub verdict_on : (a b c : Option (List ℕ)) (t w w' : List ℕ) (n i : ℕ) (left rest : List Verdict) (v : Verdict)
+    → left ≡ v ∷ rest
+    → Wrote a b t (w ++ verdicts_after (n + i) left) → Wrote b c (w ++ verdict_text (n + i + 1) v) w'
+    → Wrote a c t (w' ++ verdicts_after (n + (i + 1)) rest)
+verdict_on a b c t w w' n i left rest v is old new =
+    let e : n + (i + 1) ≡ n + i + 1 = omega arith in
+    rw e (buffered_on a b c t w (verdict_text (n + i + 1) v) w' (verdicts_after (n + i + 1) rest) (rw is at old) new)
+
+-- a prefix of one more of them is put
+pub verdict_prefix : (a b c : Option (List ℕ)) (t w : List ℕ) (n i : ℕ) (left rest : List Verdict) (v : Verdict)
+    → left ≡ v ∷ rest
+    → Wrote a b t (w ++ verdicts_after (n + i) left) → AppendsPrefix b c (w ++ verdict_text (n + i + 1) v)
+    → AppendsPrefix a c t
+verdict_prefix a b c t w n i left rest v is old new = buffered_prefix a b c t w (verdict_text (n + i + 1) v)
+    (verdicts_after (n + i + 1) rest) (rw is at old) new
+
+-- where none is left, all are put
+pub verdicts_put : (a b : Option (List ℕ)) (t w : List ℕ) (n i : ℕ) (vs : List Verdict) → length vs ≤ i
+    → Wrote a b t (w ++ verdicts_after (n + i) (drop i vs)) → Wrote a b t w
+verdicts_put a b t w n i vs h old =
+    let over : drop i vs ≡ [] = grind (arith, common_steps) in
+    rw append-nil at (rw over at old)
+
+-- where none is left, all are counted
+pub counts_put : (p : Verdict → Bool) (n whole i : ℕ) (vs : List Verdict) → length vs ≤ i
+    → n + length (filter p (drop i vs)) ≡ whole → n ≡ whole
+counts_put p n whole i vs h old =
+    let over : drop i vs ≡ [] = grind (arith, common_steps) in
+    all_counted p n whole (drop i vs) over old
+
+-- verdicts behind a count, of two lists
+verdicts_joined : (n : ℕ) (vs ws : List Verdict)
+    → verdicts_after n (vs ++ ws) ≡ verdicts_after n vs ++ verdicts_after (n + length vs) ws
+verdicts_joined n [] ws = let e : n + 0 ≡ n = omega arith in rw e refl
+verdicts_joined n (v ∷ vs) ws =
+    let e : n + suc (length vs) ≡ n + 1 + length vs = omega arith in
+    rw (e, append_assoc, verdicts_joined (n + 1) vs ws) refl
+
+-- how many of two lists there are
+both_counted : (p : Verdict → Bool) (vs ws : List Verdict)
+    → length (filter p (vs ++ ws)) ≡ length (filter p vs) + length (filter p ws)
+both_counted p [] ws = omega arith
+both_counted p (v ∷ vs) ws = step (p v) (both_counted p vs ws)
+  where
+    step : (t : Bool) → length (filter p (vs ++ ws)) ≡ length (filter p vs) + length (filter p ws)
+        → length (cond t (v ∷ filter p (vs ++ ws)) (filter p (vs ++ ws)))
+        ≡ length (cond t (v ∷ filter p vs) (filter p vs)) + length (filter p ws)
+    step true h = omega (arith, h)
+    step false h = h
+
+-- ---- rounds
+later_verdicts : (f : CertFile) (answers : List Answer) (i : ℕ) (v : Verdict) (vs : List Verdict)
+    → AreVerdictsFrom f answers i (v ∷ vs) → AreVerdictsFrom f answers (i + 1) vs
+later_verdicts f answers i v vs h k d within =
+    let e : i + 1 + k ≡ i + suc k = omega arith in
+    rw e (h (suc k) d (omega (arith, within)))
+
+-- the verdicts of a round and those of the lines behind it
+pub round_of : (f : CertFile) (answers : List Answer) (i : ℕ) (vs : List Verdict) → AreVerdictsFrom f answers i vs
+    → i + length vs ≤ length f.lines
+    → verdicts_from f answers i ≡ vs ++ verdicts_from f answers (i + length vs)
+round_of f answers i [] h within = let e : i + 0 ≡ i = omega arith in rw e refl
+round_of f answers i (v ∷ vs) h within =
+    let e : i + 0 ≡ i = omega arith in
+    let is : v ≡ verdict_of f.version f.facts answers (line_at f i) = rw e at (h 0 v (omega arith)) in
+    let next = next_verdict f answers i v (omega (arith, within)) is in
+    let rest = round_of f answers (i + 1) vs (later_verdicts f answers i v vs h) (omega (arith, within)) in
+    let s : i + suc (length vs) ≡ i + 1 + length vs = omega arith in
+    rw (s, next, rest) refl
+
+-- the same, of so many that were found
+pub round_next : (f : CertFile) (answers : List Answer) (i n : ℕ) (vs found : List Verdict) → vs ≡ found
+    → AreVerdictsFrom f answers i found → length found ≡ n → i + n ≤ length f.lines
+    → verdicts_from f answers i ≡ vs ++ verdicts_from f answers (i + n)
+round_next f answers i n vs found is h many within =
+    rw (is, ← many) (round_of f answers i found h (omega (arith, many, within)))
+
+-- a round is put
+pub round_on : (a b c : Option (List ℕ)) (t w w' : List ℕ) (i n : ℕ) (left rest vs : List Verdict) (counts : List ℕ)
+    → left ≡ vs ++ rest → n ≡ i + length vs
+    → Wrote a b t (w ++ (verdicts_after i left ++ counts)) → Wrote b c (w ++ verdicts_after i vs) w'
+    → Wrote a c t (w' ++ (verdicts_after n rest ++ counts))
+round_on a b c t w w' i n left rest vs counts is e old new =
+    let split : Wrote a b t (w ++ (verdicts_after i vs ++ (verdicts_after (i + length vs) rest ++ counts))) =
+    rw (is, verdicts_joined i vs rest, append_assoc) at old in
+    rw e (buffered_on a b c t w (verdicts_after i vs) w' (verdicts_after (i + length vs) rest ++ counts) split new)
+
+-- a prefix of a round is put
+pub round_prefix : (a b c : Option (List ℕ)) (t w : List ℕ) (i : ℕ) (left rest vs : List Verdict) (counts : List ℕ)
+    → left ≡ vs ++ rest
+    → Wrote a b t (w ++ (verdicts_after i left ++ counts)) → AppendsPrefix b c (w ++ verdicts_after i vs)
+    → AppendsPrefix a c t
+round_prefix a b c t w i left rest vs counts is old new =
+    let split : Wrote a b t (w ++ (verdicts_after i vs ++ (verdicts_after (i + length vs) rest ++ counts))) =
+    rw (is, verdicts_joined i vs rest, append_assoc) at old in
+    buffered_prefix a b c t w (verdicts_after i vs) (verdicts_after (i + length vs) rest ++ counts) split new
+
+-- a round is counted
+pub round_counted : (p : Verdict → Bool) (n now whole : ℕ) (left rest vs : List Verdict) → left ≡ vs ++ rest
+    → n + length (filter p left) ≡ whole → now ≡ n + length (filter p vs)
+    → now + length (filter p rest) ≡ whole
+round_counted p n now whole left rest vs is old added =
+    let both : n + (length (filter p vs) + length (filter p rest)) ≡ whole = rw (is, both_counted p vs rest) at old in
+    omega (arith, both, added)
+
 -- one more verdict is counted, or isn't
 pub counted : (p : Verdict → Bool) (n now whole : ℕ) (left rest : List Verdict) (v : Verdict) → left ≡ v ∷ rest
     → n + length (filter p left) ≡ whole
@@ -102,11 +217,6 @@ counted p n now whole left rest v is old added = step (p v) (rw is at old) added
 pub one_more : (t : Bool) (n now i : ℕ) → n ≤ i → now ≡ with_one t n → now ≤ i + 1
 one_more true n now i h k = omega arith
 one_more false n now i h k = omega arith
-
--- where no verdict is left, all are counted
-pub all_counted : (p : Verdict → Bool) (n whole : ℕ) (left : List Verdict) → left ≡ []
-    → n + length (filter p left) ≡ whole → n ≡ whole
-all_counted p n whole left none h = let k : n + length (filter p []) ≡ whole = rw none at h in omega arith
 
 -- all are yes where none is a no or a skip
 some : (n : ℕ) → (suc n == 0) ≡ false

@@ -1,4 +1,6 @@
--- A line that is decided has a result or breaks a rule.
+-- A line that is decided has a result or breaks a rule. By cases of what the line asks and of the outcome: of those
+-- that are right for it an undecided or a void one names a fact that is near or void, and that no fact which a decided
+-- line asks is either is the premise.
 use Rattle.std.proofs.Common.{◌≡◌, ◌⊎◌, inl, inr, refl, ℕ, List, true}
 use Rattle.std.specs.Prelude.{Result, Ok, Err}
 use Rattle.book_model.specs.declared.fact.Fact.{Fact}

@@ -1,4 +1,6 @@
--- A file no fact of which is answered by an undecided test has one text of verdicts.
+-- A file no fact of which is answered by an undecided test has one text of verdicts. A fact is true with one value or
+-- void at one site, as its run at depth 40 shows, which can have one outcome only; so two lists of right answers are
+-- equal, by induction, and the text is a function of the file and of them.
 use Rattle.std.proofs.Common.{◌≡◌, sym, ℕ, ℤ, Bool, true, false, if◌then◌else◌, List, [], ◌∷◌, length, filter}
 use Rattle.std.proofs.Common.{refl, arith}
 use Rattle.book_model.specs.declared.fact.Fact.{Fact}

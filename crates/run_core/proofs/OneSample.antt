@@ -1,4 +1,5 @@
--- A sample of which no line is undecided has one line of counts.
+-- A sample of which no line is undecided has one line of counts. By book_model's law on one outcome of each line two
+-- lists of right outcomes of the same lines are equal, and the counts are a function of the list.
 use Rattle.std.proofs.Common.{ℕ, ap}
 use Rattle.run_core.specs.Commands.{sample_lines}
 use Rattle.book_model.specs.declared.version.TheConstants.{WRITTEN}

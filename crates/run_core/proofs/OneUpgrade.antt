@@ -1,4 +1,6 @@
--- A file of which no line with words is undecided is upgraded to one text.
+-- A file of which no line with words is undecided is upgraded to one text. A line with words has one outcome by
+-- book_model's law on lines, taken at a list of this line alone, and a line without words keeps its own; so two lists
+-- of outcomes are equal, by induction over the lines, and with them the texts.
 use Rattle.std.proofs.Common.{◌≡◌, sym, ℕ, false, List, [], ◌∷◌, map, refl}
 use Rattle.std.specs.List.{AllZip}
 use Rattle.book_model.specs.declared.version.TheConstants.{WRITTEN}

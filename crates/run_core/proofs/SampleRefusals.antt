@@ -1,4 +1,6 @@
--- No line of a sample is refused.
+-- No line of a sample is refused. A sample's request names a day by its number, within what a line may name, so its
+-- rule is that of what is shown: by induction over the questions of the inquiry, with each outcome of a fact's run, its
+-- result shows something. That holds of the request of each state, and along the states of the generator.
 use Rattle.std.proofs.Common.{◌≡◌, ◌∙◌, ℕ, zero, suc, ◌+◌, true, false, List, [], ◌∷◌, length, filter, map, refl, arith}
 use Rattle.std.specs.Prelude.{Ok, pos, ℤ}
 use Rattle.almanac_core.specs.Sample.{state_after, day_by, asked_at, sample_line_of, sample_from, IsSampleDay}

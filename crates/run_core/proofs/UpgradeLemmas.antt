@@ -1,5 +1,7 @@
--- What is read and written where a file is upgraded.
-use Rattle.std.proofs.Common.{◌≡◌, ℕ, Bool, true, false, List, [], ◌∷◌, All, refl}
+-- What is read and written where a file is upgraded. By cases of the one test that the definition makes, of the header:
+-- under another header the bytes are read by the grammar, which says that each refused line names a rule. What is
+-- written is passed on with the file that was read.
+use Rattle.std.proofs.Common.{◌≡◌, ℕ, Bool, true, false, List, [], ◌∷◌, All}
 use Rattle.std.proofs.lemmas.List.Elements.{All-cons, All-nil}
 use Rattle.std.specs.Prelude.{if◌then◌else◌}
 use Rattle.std.specs.declared.option.Option.{Option}

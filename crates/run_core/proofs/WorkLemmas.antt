@@ -1,5 +1,7 @@
--- What finishes the code's work finishes the command's.
-use Rattle.std.proofs.Common.{◌≡◌, ◌⊎◌, inl, inr, ℕ, Bool, List, refl}
+-- What finishes the code's work finishes the command's. The code's work and the definition's are two types with the
+-- same cases: what the contracts say of one case, as that rows are printed, is turned into what the command asks by
+-- cases of both, in which all that don't match are absurd; and so is how a run ended.
+use Rattle.std.proofs.Common.{◌≡◌, ◌⊎◌, ℕ, Bool, List, refl}
 use Rattle.std.specs.Prelude.{Ok, Err, Result, IsErrOf}
 use Rattle.std.specs.Io.KnownBytes.{Keeps}
 use Rattle.std.specs.declared.option.Option.{Option}

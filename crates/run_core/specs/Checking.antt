@@ -1,6 +1,6 @@
 -- What is written where a certificate is checked.
 use Rattle.std.specs.Prelude.{◌≡◌, ℕ, ◌+◌, ◌<◌, Bool, true, false, List, [], ◌∷◌, ◌++◌, length, map, filter, codes}
-use Rattle.std.specs.Prelude.{decimal}
+use Rattle.std.specs.Prelude.{decimal, slice_index_or}
 use Rattle.std.specs.List.{concat, list_all}
 use Rattle.std.specs.declared.option.Option.{Option}
 use Rattle.std.specs.Io.KnownBytes.{Appends}
@@ -41,6 +41,11 @@ with_one false n = n
 -- the verdicts of the lines of a file, by an answer for each of its facts
 abbrev pub verdicts_of : CertFile → List Answer → List Verdict
 verdicts_of f answers = map (verdict_of f.version f.facts answers) f.lines
+
+-- verdicts are those of the lines of a file from one on
+abbrev pub AreVerdictsFrom : CertFile → List Answer → ℕ → List Verdict → Type 0
+AreVerdictsFrom f answers first verdicts = (k : ℕ) (d : Verdict) → k < length verdicts
+    → slice_index_or verdicts k d ≡ verdict_of f.version f.facts answers (line_at f (first + k))
 
 -- verdicts, of which the first has the number after this count
 abbrev pub verdicts_after : ℕ → List Verdict → List ℕ

@@ -1,5 +1,5 @@
 //! Checks a certificate: a verdict for each of its lines, and how many there are of each kind.
-ghost use Rattle.std.specs.Prelude.{◌≡◌, ◌≤◌, ◌<◌, ◌==◌, ◌&&◌, ◌+◌, ◌-◌, ◌^◌, ◌++◌, length, map, OnOk, IfOk, IsErrOf};
+ghost use Rattle.std.specs.Prelude.{◌≡◌, ◌≤◌, ◌<◌, ◌==◌, ◌&&◌, ◌+◌, ◌-◌, ◌^◌, ◌++◌, length, map, filter, OnOk, IfOk, IsErrOf};
 ghost use Rattle.std.specs.List.{list_all};
 ghost use Rattle.cert_check.specs.Text.{counts_text};
 ghost use Rattle.cert_check.specs.Verdicts.{AreRightAnswers, IsCheckable};
@@ -8,6 +8,7 @@ ghost use Rattle.byte_streams.specs.Stream.{Rose, Writes, Wrote};
 ghost use Rattle.conversion.specs.Writing.{Performs, WritesAll, WritesPrefix};
 ghost use Rattle.run_core.specs.Checking as spec;
 
+use crate::rounds::write_by_rounds;
 use book_model::Fact;
 use byte_streams::{Failed, Gathered, Sink, write_two_counts};
 use cert_check::{Verdict, check_line, write_counts, write_verdict};
@@ -43,10 +44,10 @@ impl Checked {
 
 /// How many verdicts are yes, a no and a skip.
 #[derive(Clone, Copy, Debug, PartialEq, Eq)]
-struct Counts {
-    yes: usize,
-    no: usize,
-    skip: usize,
+pub(crate) struct Counts {
+    pub(crate) yes: usize,
+    pub(crate) no: usize,
+    pub(crate) skip: usize,
 }
 
 impl Counts {
@@ -67,7 +68,7 @@ impl Counts {
     }
 
     /// Whether no verdict but yes was counted.
-    fn are_all_yes(&self) -> bool
+    pub(crate) fn are_all_yes(&self) -> bool
         ensures only { result ≡ ((self.now.no == 0) && (self.now.skip == 0)) }
     {
         self.no == 0 && self.skip == 0
@@ -133,7 +134,7 @@ fn put_verdict<K: Sink>(
 
 /// Writes the bytes that wait, and how many verdicts there are of each kind.
 #[tactic(auto, using(byte_streams::proofs::Flow::writing))]
-fn put_counts<K: Sink>(
+pub(crate) fn put_counts<K: Sink>(
     sink: &mut K,
     pending: &mut Gathered,
     counts: Counts,
@@ -157,10 +158,48 @@ fn put_counts<K: Sink>(
     }
 }
 
+/// Puts the verdicts of neighbouring lines, of which the first has the number after a count, behind the bytes that wait, writes these
+/// where they are many, and counts them.
+#[tactic(auto, using(byte_streams::proofs::Flow::writing))]
+pub(crate) fn put_verdicts<K: Sink>(
+    sink: &mut K,
+    pending: &mut Gathered,
+    counts: &mut Counts,
+    count: usize,
+    verdicts: &[Verdict],
+) -> Result<(), WriteStop>
+    requires few { count + length verdicts.now < 2 ^ 64 }
+    requires few_yes { counts.old.yes ≤ count }
+    requires few_no { counts.old.no ≤ count }
+    requires few_skip { counts.old.skip ≤ count }
+    ensures ok { OnOk result (Wrote (K.written sink.old) (K.written sink.new)
+        (pending.old.bytes.items ++ spec.verdicts_after count verdicts.now)
+        pending.new.bytes.items) }
+    ensures yes { OnOk result (counts.new.yes
+        ≡ counts.old.yes + length (filter spec.is_yes verdicts.now)) }
+    ensures no { OnOk result (counts.new.no
+        ≡ counts.old.no + length (filter spec.is_no verdicts.now)) }
+    ensures skip { OnOk result (counts.new.skip
+        ≡ counts.old.skip + length (filter spec.is_skip verdicts.now)) }
+    ensures few_yes { OnOk result (counts.new.yes ≤ count + length verdicts.now) }
+    ensures few_no { OnOk result (counts.new.no ≤ count + length verdicts.now) }
+    ensures few_skip { OnOk result (counts.new.skip ≤ count + length verdicts.now) }
+    ensures err { WritesPrefix K.written sink.old sink.new
+        (pending.old.bytes.items ++ spec.verdicts_after count verdicts.now) result }
+    ensures fault { IsErrOf result WriteStop.Fault → Rose (K.faults sink.old) (K.faults sink.new) }
+    ensures later { K.faults sink.old ≤ K.faults sink.new }
+{
+    for index in 0..verdicts.len() {
+        put_verdict(sink, pending, count + index, &verdicts[index])?;
+        counts.add(&verdicts[index]);
+    }
+    Ok(())
+}
+
 // Each verdict is written as it is found, and none is kept: a list of them would take up to four
 // times as much as the file.
 /// Writes the verdicts of the lines of a file, numbered from 1, and how many there are of each kind, and says whether all are
-/// yes. At an error a prefix of the text was written.
+/// yes, on the thread that calls. At an error a prefix of the text was written.
 pub(crate) fn write_verdicts<K: Sink>(
     alloc: Global,
     sink: &mut K,
@@ -229,7 +268,7 @@ fn check_file<R: Threads + Sync, K: Sink, E: Evaluator + Sync, G: Gate + Sync>(
 {
     let shelf = Shelf::open(tools.alloc)?;
     let answers = answers_of(tools, file, &shelf)?;
-    let is_right = write_verdicts(tools.alloc, sink, file, &answers)?;
+    let is_right = write_by_rounds(tools, sink, file, &answers)?;
     Ok(is_right)
 }
 

@@ -10,6 +10,7 @@ mod in_memory;
 pub mod laws;
 mod limits;
 mod program;
+mod rounds;
 mod status;
 mod upgrade;
 mod work;

@@ -21,11 +21,11 @@ returns-in_err-shelf g c = search rules
 pub returns-in_err-answers : goal.returns-in_err-answers
 returns-in_err-answers g c = search rules
 
-pub write_verdicts-requires-clause-checkable : goal.write_verdicts-requires-clause-checkable
-write_verdicts-requires-clause-checkable g c = search rules
+pub write_by_rounds-requires-clause-checkable : goal.write_by_rounds-requires-clause-checkable
+write_by_rounds-requires-clause-checkable g c = search rules
 
-pub write_verdicts-requires-clause-right : goal.write_verdicts-requires-clause-right
-write_verdicts-requires-clause-right g c = search rules
+pub write_by_rounds-requires-clause-right : goal.write_by_rounds-requires-clause-right
+write_by_rounds-requires-clause-right g c = search rules
 
 pub returns-in_err-is_right : goal.returns-in_err-is_right
 returns-in_err-is_right g c = search rules

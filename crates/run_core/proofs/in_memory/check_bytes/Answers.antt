@@ -1,6 +1,3 @@
-use Rattle.std.proofs.Common.{◌⊎◌}
-use Rattle.std.specs.Io.KnownBytes.{Keeps}
-use Rattle.run_core.specs.Checking.{CheckCutShort}
 use Rattle.run_core.proofs.WorkLemmas.{fault_ended, memory_ended}
 use Rattle.run_core.proofs.in_memory.check_bytes.Goals as goal
 
