@@ -1,4 +1,5 @@
--- The first visibility of the crescent: how many tests it makes.
+-- The first visibility of the crescent: how many tests it makes. The counts of the parts are added along the
+-- definition, from one condition of the criterion to an evening and to the search, which tries 46 evenings at most.
 use Rattle.std.specs.Prelude.{ℕ, ◌+◌, ◌*◌, Bool, ℤ, pos, ◌-ℤ◌, int_le}
 use Rattle.std.proofs.Common.{arith}
 use Rattle.book_model.specs.declared.horizon.Location.{Location}

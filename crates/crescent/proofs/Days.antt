@@ -1,4 +1,5 @@
--- A day of whose last new moon the day is known lies in the years of which ΔT is known.
+-- A day of whose last new moon the day is known lies in the years of which ΔT is known. The phase of the moon at the
+-- day is among the parts of the run at depth 40 and has a value in these years alone.
 use Rattle.std.specs.Prelude.{◌≡◌, ℕ, ℤ, ◌≤◌, ◌≤ℤ◌, Ok}
 use Rattle.std.proofs.Common.{arith}
 use Rattle.std.proofs.lemmas.Int.{ints}

@@ -1,4 +1,7 @@
--- How wide the moment of an evening is at the scale 2^-56, and what the criterion is taken of at that moment.
+-- How wide the moment of an evening is at the scale 2^-56, and what the criterion is taken of at that moment. Each
+-- number is computed with bounds in place of its arguments, once, and `measured` leads to the width of any enclosure. A
+-- longitude on the ground is known by the width of its part of a day: that product is turned back into bounds of the
+-- longitude itself.
 use Rattle.std.specs.Prelude.{◌≡◌, ℕ, ◌+◌, ◌*◌, ◌/◌, ◌^◌, ◌≤◌, Bool, true, false, ℤ, pos, neg_ℤ, ◌*ℤ◌, ◌≤ℤ◌, ◌&&◌, refl}
 use Rattle.std.specs.Prelude.{if◌then◌else◌, ◌==◌}
 use Rattle.std.proofs.Common.{arith}

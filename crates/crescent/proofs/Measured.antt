@@ -1,4 +1,5 @@
--- How wide the arc of light is at the scale 2^-56.
+-- How wide the arc of light is at the scale 2^-56. Its cosine is computed with bounds in place of the latitude and the
+-- phase, once, as a closed term; `measured` leads from there to the width of any enclosure.
 use Rattle.std.specs.Prelude.{◌≡◌, ℕ, ◌*◌, ◌^◌, true, pos, neg_ℤ, refl, if◌then◌else◌, ◌==◌}
 use Rattle.std.proofs.Common.{arith}
 use Rattle.book_model.specs.Interval.{Interval}

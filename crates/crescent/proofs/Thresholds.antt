@@ -1,4 +1,6 @@
--- How wide what the conditions of the criterion compare with is at the scale 2^-56.
+-- How wide what the conditions of the criterion compare with is at the scale 2^-56: 0, 90 degrees, and the least arc of
+-- light and altitude. Each is a constant, whose bound is computed once; and what is compared with it lies in the range
+-- that a test asks (`IsAbout`).
 use Rattle.std.specs.Prelude.{◌≡◌, ℕ, ◌^◌, true, pos, neg_ℤ, refl}
 use Rattle.std.proofs.Common.{arith}
 use Rattle.std.proofs.lemmas.Int.{ints}

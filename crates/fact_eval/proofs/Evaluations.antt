@@ -1,4 +1,7 @@
--- What a call that evaluates a fact's formula, beginning with no test counted, says of the fact.
+-- What a call that evaluates a fact's formula, beginning with no test counted, says of the fact. The call leads as the
+-- formula's run at each depth (`Leads`), so a value and a void are read off it. An undecided test is the run's test of
+-- that number: the run has fewer than 100,000 tests, so the number was not cut to 32 bits, and its sides are near by
+-- Nearness.
 use Rattle.std.specs.Prelude.{◌≡◌, ℕ, ◌+◌, ◌-◌, ◌^◌, ◌≤◌, min, ℤ, Ok, Err}
 use Rattle.std.proofs.Common.{arith, subst}
 use Rattle.book_model.specs.declared.site.Site.{Site}

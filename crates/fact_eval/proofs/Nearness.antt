@@ -1,4 +1,7 @@
--- A test that the code leaves undecided is near: its sides lie within the bounds, and so does a threshold.
+-- A test that the code leaves undecided is near: its sides lie within the bounds, and so does a threshold. The sides of
+-- each test of a run are proper, by induction on the program; where the cells of the two bounds differ, the later cell
+-- begins between them; and the bounds that stand for an unbounded test are further apart than any site allows, so those
+-- are not near.
 use Rattle.std.specs.Prelude.{◌≡◌, ℕ, suc, ◌-◌, ◌^◌, ◌≤◌, ◌-ℤ◌, ℤ, pos, ◌+ℤ◌, ◌*ℤ◌, ◌≤ℤ◌, Option, Some, None, Bool}
 use Rattle.std.specs.Prelude.{true, false, refl}
 use Rattle.std.proofs.Common.{[], ◌∷◌, arith}

@@ -1,5 +1,1 @@
 pub mod Answers
-pub mod Widths
-pub mod Spans
-pub mod Seasons
-pub mod Nisan

@@ -12,7 +12,7 @@ ghost use Rattle.book_model.specs.sky.Facts.{formula_of, run_of};
 
 /// The formula of every kind of fact, at each place and on each day (R.D.), makes fewer than 100,000 tests, whatever their
 /// answers; so each test of the run of a fact has a number below that.
-#[tactic(auto, using(crate::proofs::FewTests::formula_few, crate::proofs::FewTests::run_few))]
+#[tactic(auto, using(day_facts::proofs::FewTests::formula_few, day_facts::proofs::FewTests::run_few))]
 pub fn counts()
     ensures formulas { (kind : Kind) (place : Place) (day : ℤ)
         → AtMost 99999 (formula_of kind place day) }

@@ -1,22 +1,13 @@
-//! Answers facts by computing enclosures of their formulas.
+//! The evaluator of the program: it answers a fact by its formula (`day_facts`) over coarse enclosures, and over fine ones where these
+//! leave a test undecided. No formula stands here: what is proved here is that an answer is right for its fact.
+//!
+//! - `Staged`: the evaluator; what every fact may ask it has evaluated once, over both kinds;
+//! - `evaluate`, `answer_over`: the value, and the answer, of a fact by enclosures of one kind; `is_close`: whether an answer's bounds are
+//!   close;
+//! - `laws`: how many tests the formula of a fact makes at most.
 #![tactic(auto)]
 
-mod distances;
-mod dt;
-mod french_year;
 pub mod laws;
-mod major;
-mod midnights;
-mod moon_days;
-mod nisan;
-mod nowruz;
-mod quarters;
-mod rounding;
-mod seasons;
-mod solar_terms;
-mod solstice;
 mod staged;
-mod sun;
-mod sunsets;
 
 pub use staged::{Staged, answer_over, evaluate, is_close};

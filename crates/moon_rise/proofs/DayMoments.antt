@@ -1,5 +1,7 @@
 -- The hours of the zones are small fractions, so a moment of a day is the day's number itself or lies inside one day,
--- and in one year.
+-- and in one year. That is computed once, for the whole table of places. The moment is the day's number plus one
+-- fraction from -1 to 1, whose floor and ceiling in 2^-32 are bounded in three cases: from -1 to below 0, from 0 to
+-- below 1, and 1.
 use Rattle.std.specs.Prelude.{◌≡◌, ℕ, suc, ◌+◌, ◌-◌, ◌*◌, ◌^◌, ◌<◌, ◌≤◌, Bool, true, false, cond, ◌&&◌, int_le, int_lt}
 use Rattle.std.specs.Prelude.{nat_lt, nat_le, if◌then◌else◌, ℤ, pos, negsuc, neg_ℤ, ◌+ℤ◌, ◌-ℤ◌, ◌*ℤ◌, ◌≤ℤ◌, ◌<ℤ◌}
 use Rattle.std.specs.Prelude.{unsigned_abs, FitsSigned, List, [], ◌∷◌, refl}

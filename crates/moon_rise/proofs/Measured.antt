@@ -1,4 +1,5 @@
--- How wide the moon's distance is at the scale 2^-56, by the sum of its terms.
+-- How wide the moon's distance is at the scale 2^-56. The sum of its terms is one number of known width, by that of the
+-- moment; the distance is computed with bounds in its place, once, and `measured` leads to the width of any enclosure.
 use Rattle.std.specs.Prelude.{◌≡◌, ℕ, ◌+◌, ◌*◌, ◌^◌, true, pos, neg_ℤ, refl}
 use Rattle.std.proofs.Common.{arith}
 use Rattle.book_model.specs.Interval.{Interval}

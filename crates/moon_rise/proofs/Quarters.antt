@@ -1,4 +1,5 @@
--- Halvings, and quarters of an hour, one after another.
+-- Halvings, and quarters of an hour, one after another: the definitions' recursions by one step, each for none left and
+-- for more. They are rulesets, by which a call that recurs in the same way proves itself.
 use Rattle.std.specs.Prelude.{◌≡◌, ℕ, zero, suc, ◌+◌, ◌-◌, ◌*◌, ◌≤◌, ◌&&◌, not, if◌then◌else◌, Bool, negsuc, refl}
 use Rattle.std.proofs.Common.{arith}
 use Rattle.book_model.specs.programs.Programs.{Program, answer, bind}

@@ -1,9 +1,9 @@
 //! The facts of the Hindu calendars: values of an independent implementation of the formulas, with the tests that they make.
 use book_model::Fail as FormulaFail;
-use encl_core::{Coarse, Trail};
-use hindu_sky::{
+use day_facts::{
     calendar_year, sankranti, sign_after, sign_at_sunset, sign_before, solar_year, tithi,
 };
+use encl_core::{Coarse, Trail};
 use moon_core::PhaseLinearModel;
 use sun_core::SunLinearModel;
 

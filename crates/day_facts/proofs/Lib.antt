@@ -1,0 +1,19 @@
+pub mod KindFailures
+pub mod WidthLemmas
+pub mod DayLemmas
+pub mod NewYears
+pub mod Winters
+pub mod SunsetValues
+pub mod Solstices
+pub mod TermDays
+pub mod PlaceDays
+pub mod MoonFacts
+pub mod FewTests
+pub mod Measured
+mod SunsetWidths
+pub mod Equinoxes
+pub mod DistanceValues
+pub mod UndecidedTests
+pub mod HinduRuns
+pub mod HinduWidths
+pub mod Moons

@@ -1,0 +1,9 @@
+use Rattle.std.proofs.Common.{arith}
+use Rattle.std.proofs.lemmas.Int.{ints}
+use Rattle.day_facts.proofs.french_year.french_year.Goals as goal
+
+pub returns-clause-close : goal.returns-clause-close
+returns-clause-close g c = λ e. c.season_day.ensures.close (
+  (omega (arith, ints), omega (arith, ints)),
+  (omega (arith, ints), omega (arith, ints)),
+) e

@@ -1,0 +1,10 @@
+use Rattle.book_model.specs.programs.Widths.{close_void}
+use Rattle.day_facts.proofs.SunsetWidths.{found_is_narrow}
+use Rattle.day_facts.proofs.quarters.phasis.Goals as goal
+
+pub returns-in-Some-clause-close : goal.returns-in-Some-clause-close
+returns-in-Some-clause-close g c = λ e.
+    c.phasis_by.ensures.close e (found_is_narrow c.args.place c.in-Some.location c.in-Some.ensures)
+
+pub returns-in-None-clause-close : goal.returns-in-None-clause-close
+returns-in-None-clause-close g c = λ e. close_void

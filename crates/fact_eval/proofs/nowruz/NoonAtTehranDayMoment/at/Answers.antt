@@ -1,7 +1,0 @@
-use Rattle.std.proofs.Common.{arith, ◌^◌}
-use Rattle.fact_eval.proofs.Measured.{moments_looser}
-use Rattle.fact_eval.proofs.nowruz.NoonAtTehranDayMoment.at.Goals as goal
-
-pub returns-clause-measured : goal.returns-clause-measured
-returns-clause-measured g c = λ e. moments_looser g.E.Enclosure.shown (2 ^ 31) (2 ^ 33) c.noon.result (omega arith)
-    (c.noon.ensures.measured e)

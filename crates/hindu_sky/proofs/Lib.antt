@@ -1,4 +1,0 @@
-pub mod UndecidedTests
-pub mod HinduRuns
-pub mod Measured
-pub mod Moons
