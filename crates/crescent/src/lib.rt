@@ -5,7 +5,7 @@
 //! - `visible`: the criterion, by the moon's phase, its arc of light and its altitude at dusk;
 //! - `phasis`: the search for the day of the first visibility; `phasis_by`: the same by linear models; `visibility_from_by`: the search
 //!   from a day on;
-//! - `Sunsets`, `sunset`: of `rise_set`, re-exported to the facts.
+//! - `Sunsets`, `sunset`, and `HinduSunsets`, `hsunset`, `sunrise` at Ujjain: of `rise_set`, re-exported to the facts.
 #![tactic(auto)]
 
 mod arc_of_light;
@@ -16,4 +16,4 @@ mod first_visibility;
 pub use arc_of_light::arc_cosine;
 pub use criterion::visible;
 pub use first_visibility::{phasis, phasis_by, visibility_from_by};
-pub use rise_set::{Sunsets, sunset};
+pub use rise_set::{HinduSunsets, Sunsets, hsunset, sunrise, sunset};
