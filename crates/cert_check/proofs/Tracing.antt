@@ -110,8 +110,8 @@ found_after {t = t} {old = old} (goes_on {f = f} {v = v} value rest) h = found_a
 found_after (stops fresh stop) h = h
 
 -- no fact is asked behind all of the listed ones
-endpoints_within : (t : FactTable) (asked : List Fact) → AreFound t asked → EndsWithin asked t.facts
-endpoints_within t asked h = record {
+ends_within : (t : FactTable) (asked : List Fact) → AreFound t asked → EndsWithin asked t.facts
+ends_within t asked h = record {
   no_more = λ f fs e.
       let d : IsTrue (are_distinct (t.facts ++ f ∷ fs)) = rw e at h.distinct in
       let v = valued_at t t.facts f fs (rw e at h.valued) in
@@ -131,7 +131,7 @@ pub asked_within : {A : Type 0} (facts : List Fact) (values : List ℤ) (i : Inq
     → Inquires by_table i old new r → EndsWithin new.asked facts
 asked_within facts values i old new r fresh h =
     rw (← fresh.facts_are)
-    (endpoints_within old.known new.asked
+    (ends_within old.known new.asked
     (found_after h.tells (rw fresh.none (record { distinct = refl; valued = tt }))))
 
 -- the verdict by what was asked is that of the listed facts

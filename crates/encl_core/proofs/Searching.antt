@@ -49,11 +49,11 @@ module _ {w : World} {p : Program ℤ} {b m n : ℕ} (test : ℤ → Program Boo
       continues_fail _ (search_goes test start days later h k) t
 
 -- no day is left
-pub search_endpoints : {w : World} {p : Program ℤ} {b m : ℕ} (test : ℤ → Program Bool) (day : ℤ) (days later : ℕ)
+pub search_is_over : {w : World} {p : Program ℤ} {b m : ℕ} (test : ℤ → Program Bool) (day : ℤ) (days later : ℕ)
     → days ≤ later
     → Continues w Exact p b (first_of_days (days - later) test day) m → Leads w Exact p b m (Err (Void Search))
 unfolding first_of_days
-search_endpoints test day days later h k = let e : days - later ≡ 0 = omega arith in continues_void (rw e at k)
+search_is_over test day days later h k = let e : days - later ≡ 0 = omega arith in continues_void (rw e at k)
 
 -- the search begins with its first day
 pub first_is : {w : World} {b : ℕ} (test : ℤ → Program Bool) (start : ℤ)

@@ -80,7 +80,7 @@ impl<E: Enclosure> HinduSunsets<E> {
         }
     }
 
-    /// When the sun's middle sets on a day (R.D.), in universal time: 132 tests at most (`hindu_sky`'s `sunset_few`). It is void
+    /// When the sun's middle sets on a day (R.D.), in universal time: 132 tests at most (`day_facts`'s `sunset_few`). It is void
     /// where dusk is.
     #[tactic(auto, using(book_model::proofs::Leads::leading), unfolding(book_model::specs::sky::Horizon::hindu_sunset_of))]
     pub fn on(&self, day: i64, trail: &mut Trail) -> Result<E, Fail>
@@ -97,7 +97,7 @@ impl<E: Enclosure> HinduSunsets<E> {
 }
 
 /// When the sun's middle sets on a day (R.D.) at Ujjain, the air left out, in universal time (Reingold and Dershowitz, Calendrical
-/// Calculations, chapter 20): 132 tests at most (`hindu_sky`'s `sunset_few`). It is void where dusk is.
+/// Calculations, chapter 20): 132 tests at most (`day_facts`'s `sunset_few`). It is void where dusk is.
 pub fn hsunset<E: Enclosure>(day: i64, trail: &mut Trail) -> Result<E, Fail>
     ensures leads { Follows E.shown (spec.hindu_sunset_of day) trail.old.count trail.new.count
         result }

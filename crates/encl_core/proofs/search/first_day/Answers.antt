@@ -2,7 +2,7 @@ use Rattle.std.proofs.Common.{rules, ◌≡◌, ◌+ℤ◌, pos, w64, to_z, of_z
 use Rattle.std.proofs.lemmas.Int.{ints}
 use Rattle.std.proofs.lemmas.Result.{err_from_is_err_and}
 use Rattle.book_model.specs.programs.Widths.{close_void}
-use Rattle.encl_core.proofs.Searching.{search_hit, search_miss, search_fails, search_endpoints, first_is}
+use Rattle.encl_core.proofs.Searching.{search_hit, search_miss, search_fails, search_is_over, first_is}
 use Rattle.encl_core.proofs.search.first_day.Goals as goal
 
 pub loop-later-init : goal.loop-later-init
@@ -45,7 +45,7 @@ loop-later-preserved g c =
 pub returns-clause-leads : goal.returns-clause-leads
 returns-clause-leads g c =
     let start : to_z w64 (of_z w64 c.args.start) ≡ c.args.start = search rules in
-    λ w deep. search_endpoints _ (c.args.start +ℤ pos c.loop-later.later) 46 c.loop-later.later
+    λ w deep. search_is_over _ (c.args.start +ℤ pos c.loop-later.later) 46 c.loop-later.later
     (omega (arith, c.loop-later-test.false))
     (rw start at (c.loop-later.invariant w deep))
 
