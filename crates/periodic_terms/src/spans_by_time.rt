@@ -132,7 +132,8 @@ fn near_sum(rows: &[TurningTerm], slope: u64, sizes: u64, days: Span) -> Option<
     ensures holds { IfSome result (λ s. (w : World) (x : Expression) (vs : List PeriodicTerm) → DEPTH ≤ w.depth
         → AreTurning vs rows.now → HasReach vs slope sizes
         → value w x ⊆ between (units_of_56 days.lo) (units_of_56 days.hi)
-        → value w (terms_of (turning_term_of x) no_periodic_term vs) ⊆ between (units_of_56 s.lo) (units_of_56 s.hi)) }
+        → value w (terms_of (turning_term_of x) no_periodic_term vs)
+        ⊆ between (units_of_56 s.lo) (units_of_56 s.hi)) }
     ensures narrow { IfSome result (λ s. ((s.hi -ℤ s.lo) *ℤ pos (2 ^ 32)) ≤ℤ
         (((days.hi -ℤ days.lo) +ℤ pos (2 ^ 9)) *ℤ pos slope +ℤ
         (pos sizes *ℤ pos 28 +ℤ pos 1) *ℤ pos (2 ^ 33))) }
@@ -152,7 +153,8 @@ fn near_sum(rows: &[TurningTerm], slope: u64, sizes: u64, days: Span) -> Option<
 pub(crate) fn any_sum(sizes: u64) -> Span
     requires sizes { sizes ≤ 2 ^ 40 }
     ensures holds { (w : World) (x : Expression) (vs : List PeriodicTerm) (slope : ℕ) → HasReach vs slope sizes
-        → value w (terms_of (turning_term_of x) no_periodic_term vs) ⊆ between (units_of_56 result.lo) (units_of_56 result.hi) }
+        → value w (terms_of (turning_term_of x) no_periodic_term vs)
+        ⊆ between (units_of_56 result.lo) (units_of_56 result.hi) }
     ensures low { result.lo ≡ neg_ℤ (pos (sizes * 2 ^ 56)) }
     ensures high { result.hi ≡ pos (sizes * 2 ^ 56) }
 {
@@ -187,7 +189,8 @@ pub fn sum_over(rows: &[TurningTerm], slope: u64, sizes: u64, days: Span) -> Spa
     ensures holds { (w : World) (x : Expression) (vs : List PeriodicTerm) → DEPTH ≤ w.depth
         → AreTurning vs rows.now → HasReach vs slope sizes
         → value w x ⊆ between (units_of_56 days.lo) (units_of_56 days.hi)
-        → value w (terms_of (turning_term_of x) no_periodic_term vs) ⊆ between (units_of_56 result.lo) (units_of_56 result.hi) }
+        → value w (terms_of (turning_term_of x) no_periodic_term vs)
+        ⊆ between (units_of_56 result.lo) (units_of_56 result.hi) }
     ensures narrow { AreKnown days.lo days.hi → IsNarrowSum slope sizes days.lo days.hi result.lo result.hi }
 {
     let any = any_sum(sizes);
