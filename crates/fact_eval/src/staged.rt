@@ -15,7 +15,7 @@ use encl_core::{Coarse, Enclosure, Trail};
 use fix_fine::Fine;
 use oracle_core::{Answer, Evaluator};
 
-/// What is evaluated once, before any fact, over enclosures of one kind, and serves every fact: a trail that has made no test and
+/// What is evaluated before any fact, over enclosures of one kind, and serves every fact: a trail that has made no test and
 /// caches the new moon of number 0, and the linear models of the moon and the sun over the usual days.
 #[derive(Drop)]
 struct Beginning<E: Enclosure> {
@@ -33,12 +33,13 @@ impl<E: Enclosure> Beginning<E> {
     }
 }
 
+// Of a quarter of a million facts 59 ask the fine kind: what serves it is made where one does, which
+// spares a start a sixth of its instructions.
 /// Evaluates each fact over coarse enclosures, and over fine ones where these leave a test undecided. What every fact may ask it
-/// has evaluated once, over both.
+/// has evaluated once, over the coarse kind.
 #[derive(Drop)]
 pub struct Staged {
     coarse: Beginning<Coarse>,
-    fine: Beginning<Fine>,
 }
 
 impl Staged {
@@ -46,7 +47,6 @@ impl Staged {
     pub fn new() -> Staged {
         Staged {
             coarse: Beginning::<Coarse>::new(),
-            fine: Beginning::<Fine>::new(),
         }
     }
 }
@@ -157,7 +157,7 @@ impl Evaluator for Staged {
     fn eval(&self, fact: Fact) -> Answer {
         match answer_from::<Coarse>(&self.coarse, fact) {
             // By the same formulas, and the fine run's answer is the answer: its bounds are narrower.
-            Answer::Undecided(_) => answer_from::<Fine>(&self.fine, fact),
+            Answer::Undecided(_) => answer_over::<Fine>(fact),
             decided => decided,
         }
     }
