@@ -23,6 +23,8 @@ use Rattle.book_model.proofs.Fractions.{le_refl, le_trans, plus_mono, smaller_fi
 use Rattle.book_model.proofs.Intervals.{within_refl, within_trans}
 use Rattle.book_model.proofs.Leads.{leads_bind_exact, leads_answer}
 use Rattle.book_model.proofs.Ring.{at, lit, ◌⊗◌}
+use Rattle.moon_rise.specs.Answers.{answered}
+use Rattle.moon_rise.specs.declared.walk.AnswerOver.{AnswerOver}
 use Rattle.moon_rise.specs.Computed.{shift_of, computed_moment_of}
 use Rattle.moon_rise.proofs.Orders.{moment_holds}
 
@@ -77,11 +79,11 @@ between_holds shown w place d from i to e p h k y =
 -- ---- decided at each of them
 -- whether the moon is up, by an enclosure that holds them all
 pub each_up : {E : Type 0} (shown : E → Interval) (place : Place) (p : Location) (d : ℤ) (from to : ℕ) (t : E)
-    (r : Result Bool Fail) {b a : ℕ}
-    → ((i : ℕ) → from ≤ i → i ≤ to → Holds shown (moment_of place d i) t) → Decides1 shown (up_of p) t b a r
-    → IfOk r (λ so. (i : ℕ) → from ≤ i → i ≤ to → Decides (up_at_of place p d i) b a (Ok so))
+    (r : Result AnswerOver Fail) {b a : ℕ}
+    → ((i : ℕ) → from ≤ i → i ≤ to → Holds shown (moment_of place d i) t) → Decides1 shown (up_of p) t b a (answered r)
+    → IfOk r (λ all. (i : ℕ) → from ≤ i → i ≤ to → Decides (up_at_of place p d i) b a (Ok all.so))
 unfolding up_at_of
-each_up shown place p d from to t (Ok so) m h = λ i l u w deep. h w (moment_of place d i) (m i l u w deep)
+each_up shown place p d from to t (Ok all) m h = λ i l u w deep. h w (moment_of place d i) (m i l u w deep)
 each_up shown place p d from to t (Err f) m h = tt
 
 -- the opposite of what is so at each

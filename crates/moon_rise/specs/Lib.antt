@@ -3,3 +3,4 @@ pub mod Computed
 pub mod Moments
 pub mod Widths
 pub mod SteadyIntervals
+pub mod Answers

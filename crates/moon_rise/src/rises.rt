@@ -10,9 +10,9 @@ ghost use Rattle.moon_rise.specs.Widths.{IsSkyLocation};
 ghost use Rattle.std.specs.Prelude.{◌≡◌, ◌≤◌, pos, negsuc, ◌≤ℤ◌, IfErr, IfOk};
 ghost use Rattle.time_scales.specs.Steps.{IsNotOfYear};
 
-use crate::altitudes::is_up;
+use crate::altitudes::{is_up, is_up_over};
 use crate::moments::{moment_at, moments_over};
-use crate::walk::{MomentTest, crossing};
+use crate::walk::{AnswerOver, MomentTest, crossing};
 use book_model::{Fail, Location, Place, Site};
 use encl_core::{Enclosure, Trail};
 
@@ -35,9 +35,9 @@ impl<E: Enclosure> MomentTest<E> for MoonUp {
         is_up(&self.location, t, trail)
     }
 
-    fn holds_over(&self, from: u32, to: u32, trail: &mut Trail) -> Result<bool, Fail> {
+    fn holds_over(&self, from: u32, to: u32, trail: &mut Trail) -> Result<AnswerOver, Fail> {
         let interval_of_days = moments_over::<E>(self.place, self.day, from, to);
-        is_up(&self.location, interval_of_days, trail)
+        is_up_over(&self.location, interval_of_days, trail)
     }
 }
 
@@ -58,9 +58,12 @@ impl<E: Enclosure, T: MomentTest<E>> MomentTest<E> for Opposite<T> {
         Ok(!so)
     }
 
-    fn holds_over(&self, from: u32, to: u32, trail: &mut Trail) -> Result<bool, Fail> {
+    fn holds_over(&self, from: u32, to: u32, trail: &mut Trail) -> Result<AnswerOver, Fail> {
         let everywhere = self.test.holds_over(from, to, trail)?;
-        Ok(!everywhere)
+        Ok(AnswerOver {
+            so: !everywhere.so,
+            ahead: everywhere.ahead,
+        })
     }
 }
 

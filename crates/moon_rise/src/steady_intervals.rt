@@ -11,7 +11,7 @@ ghost use Rattle.moon_rise.specs.SteadyIntervals.{HasOneAnswer, turn_after};
 ghost use Rattle.std.specs.Prelude.{◌≡◌, ◌<◌, ◌≤◌, ◌-◌, ◌^◌, ℕ, Bool, IfErr, IfSome};
 ghost use Rattle.time_scales.specs.Steps.{IsNotOfYear};
 
-use crate::walk::MomentTest;
+use crate::walk::{AnswerOver, MomentTest};
 use book_model::Fail;
 use encl_core::{Enclosure, Trail};
 
@@ -20,20 +20,23 @@ const SIXTEENTHS: u32 = 16;
 
 const LAST_MOMENT: u32 = 1536;
 
-// A day takes 16 evaluations so, where each quarter by itself takes 53; with intervals that double from
-// quarter to quarter it would take 18 (the mean of 300 days, by a simulation).
-/// How many quarters of an hour after its first moment the longest interval ends, and by how much shorter the next that is tried is.
-const LONGEST: u32 = 9;
+/// How many quarters of an hour after its first moment an interval ends: the first of a day, and the longest.
+const FIRST_LENGTH: u32 = 9;
 
-const SHORTER: u32 = 3;
+pub(crate) const LONGEST: u32 = 16;
 
-/// The moments from one to another, at each of which a test has one answer, by so many tests.
+/// By how much shorter the next one is that is tried, where one is undecided; last is the first moment alone.
+const SHORTER: u32 = 2;
+
+/// The moments from one to another, at each of which a test has one answer, by so many tests; and how many quarters of an hour long an
+/// interval behind them is tried first.
 #[derive(Clone, Copy, Drop)]
 pub(crate) struct SteadyInterval {
     from: u32,
     to: u32,
     so: bool,
     tests: u32,
+    ahead: u32,
 }
 
 impl SteadyInterval {
@@ -46,6 +49,7 @@ impl SteadyInterval {
             to: 0,
             so: false,
             tests: 0,
+            ahead: FIRST_LENGTH,
         }
     }
 }
@@ -64,7 +68,7 @@ fn count_again(tests: u32, trail: &mut Trail)
 /// The moment so many quarters of an hour after another, but none after the day.
 fn moment_ahead(moment: u32, quarters: u32) -> u32
     requires few { moment ≤ 1536 }
-    requires quarters { quarters ≤ 9 }
+    requires quarters { quarters ≤ 16 }
     ensures from { moment ≤ result }
     ensures to { result ≤ 1536 }
 {
@@ -77,16 +81,17 @@ fn moment_ahead(moment: u32, quarters: u32) -> u32
 }
 
 /// The interval of an evaluation, unless its count came to the greatest number, which tells no number of tests.
-fn steady_by(from: u32, to: u32, so: bool, tests: u32) -> Option<SteadyInterval>
-    ensures told { IfSome result (λ s. (s.from ≡ from) × (s.to ≡ to) × (s.so ≡ so) × (s.tests ≡ tests)) }
+fn steady_by(from: u32, to: u32, all: AnswerOver, tests: u32) -> Option<SteadyInterval>
+    ensures told { IfSome result (λ s. (s.from ≡ from) × (s.to ≡ to) × (s.so ≡ all.so) × (s.tests ≡ tests)) }
     ensures few { IfSome result (λ s. tests < 2 ^ 32 - 1) }
 {
     if tests < u32::MAX {
         Some(SteadyInterval {
             from,
             to,
-            so,
+            so: all.so,
             tests,
+            ahead: all.ahead,
         })
     } else {
         None
@@ -108,29 +113,27 @@ fn steady_over<E: Enclosure, T: MomentTest<E>>(
 {
     let mut apart = trail.anew();
     match test.holds_over(from, to, &mut apart) {
-        Ok(so) => steady_by(from, to, so, apart.count()),
+        Ok(all) => steady_by(from, to, all, apart.count()),
         Err(_) => None,
     }
 }
 
-/// The longest interval from a moment on over which an evaluation tells the answer, of so many quarters of an hour, of a third of
-/// these, and so on.
+/// The longest interval from a moment on over which an evaluation tells the answer, of so many quarters of an hour, of half of these,
+/// and so on down to the moment alone.
 fn steady_from<E: Enclosure, T: MomentTest<E>>(
     quarters: u32,
     test: &T,
     from: u32,
     trail: &Trail,
 ) -> Option<SteadyInterval>
-    requires quarters { quarters ≤ 9 }
+    requires quarters { quarters ≤ 16 }
     requires few { from ≤ 1536 }
     ensures answers { IfSome result (HasOneAnswer (T.test_of test.now)) }
     ensures here { IfSome result (λ s. (s.from ≤ from) × (from ≤ s.to)) }
 {
-    if quarters == 0 {
-        return None;
-    }
     match steady_over::<E, T>(test, from, moment_ahead(from, quarters), trail) {
         Some(steady) => Some(steady),
+        None if quarters == 0 => None,
         None => steady_from::<E, T>(quarters / SHORTER, test, from, trail),
     }
 }
@@ -163,7 +166,7 @@ pub(crate) fn holds_at<E: Enclosure, T: MomentTest<E>>(
     if known.from <= moment && moment <= known.to {
         return Ok(answer_again(known, trail));
     }
-    match steady_from::<E, T>(LONGEST, test, moment, trail) {
+    match steady_from::<E, T>(known.ahead.min(LONGEST), test, moment, trail) {
         Some(steady) => {
             *known = steady;
             Ok(answer_again(&steady, trail))

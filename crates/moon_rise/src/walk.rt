@@ -39,11 +39,19 @@ pub(crate) trait MomentTest<E: Enclosure> {
 
     /// The same at every moment from one to another at once. Where it answers it has made the tests of each of them; a failure says
     /// nothing of any.
-    fn holds_over(&self, from: u32, to: u32, trail: &mut Trail) -> Result<bool, Fail>
+    fn holds_over(&self, from: u32, to: u32, trail: &mut Trail) -> Result<AnswerOver, Fail>
         requires order { from ≤ to }
         requires few { to ≤ 1536 }
-        ensures leads { IfOk result (λ so. (i : ℕ) → from ≤ i → i ≤ to
-            → Decides (test_of self.now i) trail.old.count trail.new.count (Ok so)) };
+        ensures leads { IfOk result (λ all. (i : ℕ) → from ≤ i → i ≤ to
+            → Decides (test_of self.now i) trail.old.count trail.new.count (Ok all.so)) };
+}
+
+/// Whether something is so at every moment of an interval, and for how many quarters of an hour after it the same may well be so: by that
+/// it is chosen how long an interval is tried next, and nothing else rests on it.
+#[derive(Clone, Copy, Drop)]
+pub(crate) struct AnswerOver {
+    pub(crate) so: bool,
+    pub(crate) ahead: u32,
 }
 
 /// It isn't so at the first of two moments and is so at the second: where they are halved so many times, the first of the two that are

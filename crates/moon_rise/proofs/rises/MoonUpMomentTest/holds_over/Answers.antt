@@ -10,5 +10,5 @@ returns g c = record {
       let m = simp to_z-of_z at c.moments_over-interval_of_days.ensures.holds in
       each_up g.E.Enclosure.shown c.args.self.now.place c.args.self.now.location c.args.self.now.day c.args.from
       c.args.to c.moments_over-interval_of_days.result
-      c.is_up.result m c.is_up.ensures.leads;
+      c.is_up_over.result m c.is_up_over.ensures.leads;
 }
