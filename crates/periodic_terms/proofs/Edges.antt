@@ -3,7 +3,7 @@
 -- spans: so each span holds the other's numbers but for its width, and an octant may be followed or preceded by its
 -- neighbour at the cost of four parts of 2^-56. After the eighth octant comes the first, and four octants later the
 -- signs are turned.
-use Rattle.std.proofs.Common.{◌≡◌, ℕ, zero, suc, ◌-◌, ◌≤◌, refl, arith, neg_ℤ, ℤ, pos, negsuc, ◌+ℤ◌, ◌-ℤ◌, ◌*ℤ◌, ◌≤ℤ◌}
+use Rattle.std.proofs.Common.{◌≡◌, ℕ, zero, suc, ◌-◌, ◌%◌, ◌≤◌, refl, arith, neg_ℤ, ℤ, pos, negsuc, ◌+ℤ◌, ◌-ℤ◌, ◌*ℤ◌, ◌≤ℤ◌}
 use Rattle.std.proofs.Common.{◌<ℤ◌, ◌⊎◌, inl, inr}
 use Rattle.std.proofs.lemmas.Int.{ints}
 use Rattle.book_model.specs.Fraction.{Fraction, ◌≤F◌}
@@ -18,6 +18,8 @@ use Rattle.book_model.proofs.Terms.{sine_halving, cosine_halving}
 use Rattle.encl_core.specs.parts.TheConstants.{OCTANT}
 use Rattle.trig_series.specs.Kernel.{in_radians, in_radians_above, IsInRadians, IsAngle, AreSineEndpoints}
 use Rattle.trig_series.specs.Kernel.{AreCosineEndpoints}
+use Rattle.trig_series.specs.declared.waves.Wave.{Wave}
+use Rattle.trig_series.specs.declared.waves.Wave.TheVariants.{Cosine, Sine}
 use Rattle.trig_series.proofs.Curves.{in_fifths}
 use Rattle.trig_series.proofs.KernelAngles.{angle_between, by_lower, by_upper}
 use Rattle.trig_series.proofs.PartLemmas.{above_fifths}
@@ -188,25 +190,42 @@ preceding k lo hi h = earlier (octant_of_turn k) lo hi (last_point _ _ 0 lo hi
 
 -- ---- in the first half turn, and four octants later
 module _ (o d s : ℕ) (r : ℤ) (l : (r *ℤ pos 256) ≤ℤ pos s) (u : pos s <ℤ (r *ℤ pos 256 +ℤ pos 256)) where
-  pub half_0 : o ≡ 0 → ((n : ℕ) (x : Fraction) → 8 ≤ n → IsInRadians d x → AreSineEndpoints x s n)
+  half_0 : o ≡ 0 → ((n : ℕ) (x : Fraction) → 8 ≤ n → IsInRadians d x → AreSineEndpoints x s n)
       → HasPoint o d (r -ℤ pos 3) (r +ℤ pos 3)
   unfolding HasPoint
   half_0 e f = rw e (sine_is d s _ _ f (omega (arith, ints, l)) (omega (arith, ints, u)))
 
-  pub half_1 : o ≡ 1 → ((n : ℕ) (x : Fraction) → 9 ≤ n → IsInRadians (OCTANT - d) x → AreCosineEndpoints x s n)
+  half_1 : o ≡ 1 → ((n : ℕ) (x : Fraction) → 9 ≤ n → IsInRadians (OCTANT - d) x → AreCosineEndpoints x s n)
       → HasPoint o d (r -ℤ pos 3) (r +ℤ pos 3)
   unfolding HasPoint
   half_1 e f = rw e (cosine_is (OCTANT - d) s _ _ f (omega (arith, ints, l)) (omega (arith, ints, u)))
 
-  pub half_2 : o ≡ 2 → ((n : ℕ) (x : Fraction) → 9 ≤ n → IsInRadians d x → AreCosineEndpoints x s n)
+  half_2 : o ≡ 2 → ((n : ℕ) (x : Fraction) → 9 ≤ n → IsInRadians d x → AreCosineEndpoints x s n)
       → HasPoint o d (r -ℤ pos 3) (r +ℤ pos 3)
   unfolding HasPoint
   half_2 e f = rw e (cosine_is d s _ _ f (omega (arith, ints, l)) (omega (arith, ints, u)))
 
-  pub half_3 : o ≡ 3 → ((n : ℕ) (x : Fraction) → 8 ≤ n → IsInRadians (OCTANT - d) x → AreSineEndpoints x s n)
+  half_3 : o ≡ 3 → ((n : ℕ) (x : Fraction) → 8 ≤ n → IsInRadians (OCTANT - d) x → AreSineEndpoints x s n)
       → HasPoint o d (r -ℤ pos 3) (r +ℤ pos 3)
   unfolding HasPoint
   half_3 e f = rw e (sine_is (OCTANT - d) s _ _ f (omega (arith, ints, l)) (omega (arith, ints, u)))
+
+-- the wave v of e degrees, by the octant
+pub in_half : (o d e s : ℕ) (r : ℤ) (v : Wave) → (r *ℤ pos 256) ≤ℤ pos s → pos s <ℤ (r *ℤ pos 256 +ℤ pos 256) → o ≤ 3
+    → (o % 2 ≡ 0 → e ≡ d) → (o % 2 ≡ 1 → e ≡ OCTANT - d)
+    → (o ≡ 0 → v ≡ Sine) → (o ≡ 1 → v ≡ Cosine) → (o ≡ 2 → v ≡ Cosine) → (o ≡ 3 → v ≡ Sine)
+    → (v ≡ Sine → (n : ℕ) (x : Fraction) → 8 ≤ n → IsInRadians e x → AreSineEndpoints x s n)
+    → (v ≡ Cosine → (n : ℕ) (x : Fraction) → 9 ≤ n → IsInRadians e x → AreCosineEndpoints x s n)
+    → HasPoint o d (r -ℤ pos 3) (r +ℤ pos 3)
+in_half zero d e s r v l u b even odd w0 w1 w2 w3 f g =
+    let h = f (w0 refl) in half_0 zero d s r l u refl (rw (even refl) at h)
+in_half (suc zero) d e s r v l u b even odd w0 w1 w2 w3 f g =
+    let h = g (w1 refl) in half_1 (suc zero) d s r l u refl (rw (odd refl) at h)
+in_half (suc (suc zero)) d e s r v l u b even odd w0 w1 w2 w3 f g =
+    let h = g (w2 refl) in half_2 (suc (suc zero)) d s r l u refl (rw (even refl) at h)
+in_half (suc (suc (suc zero))) d e s r v l u b even odd w0 w1 w2 w3 f g =
+    let h = f (w3 refl) in half_3 (suc (suc (suc zero))) d s r l u refl (rw (odd refl) at h)
+in_half (suc (suc (suc (suc o)))) d e s r v l u b even odd w0 w1 w2 w3 f g = absurd (omega (arith, b))
 
 pub later_half : (o d : ℕ) (r : ℤ) → 4 ≤ o → HasPoint (o - 4) d (r -ℤ pos 3) (r +ℤ pos 3)
     → HasPoint o d ((pos 0 -ℤ r) -ℤ pos 3) ((pos 0 -ℤ r) +ℤ pos 3)

@@ -15,9 +15,11 @@ use Rattle.book_model.specs.numbers.Series.{cosine_term, double}
 use Rattle.book_model.proofs.Terms.{IsUpTo, square_nonneg, falling, cosine_step_from_first, cosine_one, cosine_halving}
 use Rattle.encl_core.proofs.HighHalves.{IsHigh}
 use Rattle.trig_series.proofs.KernelSteps.{step_near, square_near, angle_fifths}
-use Rattle.trig_series.proofs.SineChain.{Keeps, next, near_same, step_at, nested, flipped, inner_nested}
+use Rattle.trig_series.proofs.SineChain.{Keeps, Steps, next, near_same, step_at, nested, flipped, inner_nested}
 use Rattle.encl_core.specs.Units.{IsWithinUnits}
 use Rattle.trig_series.specs.Kernel.{IsCut, IsAngle, IsSquare, AreCosineEndpoints}
+use Rattle.trig_series.specs.declared.waves.Coefficients.{Coefficients}
+use Rattle.trig_series.specs.declared.waves.TheConstants.{COSINE}
 
 abbrev ratio : ℕ → Fraction
 ratio k = falling (double k)
@@ -104,6 +106,23 @@ pub record Chain (w j i h g f e d c b a : ℕ) : Type 0 where
   pub k2 : Keeps 768614336404564650 w d c
   pub k1 : Keeps 9223372036854775808 w c b
   pub k0 : Keeps 18446744073709551615 w b a
+
+pub cosine_chain : (r : Coefficients) (w i h g f e d c b a : ℕ) → r ≡ COSINE → Steps r w i h g f e d c b a
+    → Chain w 2881 i h g f e d c b a
+cosine_chain r w i h g f e d c b a q s =
+    let t = rw q at s in
+    record {
+      k9 = innermost w;
+      k8 = t.eighth;
+      k7 = t.seventh;
+      k6 = t.sixth;
+      k5 = t.fifth;
+      k4 = t.fourth;
+      k3 = t.third;
+      k2 = t.second;
+      k1 = t.first;
+      k0 = t.constant;
+    }
 
 coefficient_next : (k : ℕ) (N : Fraction) → times (coefficient (suc k)) N ≡ times (times (coefficient k) (ratio k)) N
 unfolding coefficient

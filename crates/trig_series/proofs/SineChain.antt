@@ -18,6 +18,8 @@ use Rattle.encl_core.proofs.HighHalves.{IsHigh}
 use Rattle.trig_series.proofs.KernelSteps.{step_near, square_near, product_above, product_below, angle_fifths}
 use Rattle.encl_core.specs.Units.{IsWithinUnits}
 use Rattle.trig_series.specs.Kernel.{IsCut, IsAngle, IsSquare, AreSineEndpoints}
+use Rattle.trig_series.specs.declared.waves.Coefficients.{Coefficients}
+use Rattle.trig_series.specs.declared.waves.TheConstants.{SINE}
 
 -- 1 - u r s
 abbrev pub step_at : Fraction → Fraction → Fraction → Fraction
@@ -153,6 +155,37 @@ pub record Chain (w i h g f e d c b a : ℕ) : Type 0 where
   pub k2 : Keeps 153722867280912930 w d c
   pub k1 : Keeps 3074457345618258602 w c b
   pub k0 : Keeps 18446744073709551615 w b a
+
+-- what the code's steps keep, by the row of their coefficients
+pub record Steps (r : Coefficients) (w i h g f e d c b a : ℕ) : Type 0 where
+  pub eighth : Keeps r.eighth w r.ninth i
+  pub seventh : Keeps r.seventh w i h
+  pub sixth : Keeps r.sixth w h g
+  pub fifth : Keeps r.fifth w g f
+  pub fourth : Keeps r.fourth w f e
+  pub third : Keeps r.third w e d
+  pub second : Keeps r.second w d c
+  pub first : Keeps r.first w c b
+  pub constant : Keeps r.constant w b a
+
+pub sine_chain : (r : Coefficients) (w i h g f e d c b a : ℕ) → r ≡ SINE → Steps r w i h g f e d c b a
+    → Chain w i h g f e d c b a
+sine_chain r w i h g f e d c b a q s =
+    let t = rw q at s in
+    record {
+      k8 = t.eighth;
+      k7 = t.seventh;
+      k6 = t.sixth;
+      k5 = t.fifth;
+      k4 = t.fourth;
+      k3 = t.third;
+      k2 = t.second;
+      k1 = t.first;
+      k0 = t.constant;
+    }
+
+pub sine_constant : (r : Coefficients) (a : ℕ) → r ≡ SINE → a ≤ r.constant → a ≤ 2 ^ 64
+sine_constant r a q l = let m : a ≤ 18446744073709551615 = rw q at l in omega (arith, m)
 
 abbrev tenth : Fraction → Fraction
 tenth s = times (times (coefficient 8) (ratio 8)) s

@@ -1,5 +1,5 @@
 -- Numbers in 64 bits that are near a fraction; all are in units of 2^-64.
-use Rattle.std.specs.Prelude.{ℕ, ℤ, pos, ◌-ℤ◌, ◌+ℤ◌}
+use Rattle.std.specs.Prelude.{ℕ, ℤ, pos, ◌-ℤ◌, ◌+ℤ◌, ◌≤◌, ◌*◌, ◌^◌}
 use Rattle.book_model.specs.Fraction.{Fraction, ◌≤F◌, times}
 use Rattle.book_model.specs.Sums.{lower, upper, one_over}
 use Rattle.book_model.specs.declared.tables.TheConstants.{PI_BELOW, PI_ABOVE}
@@ -7,11 +7,25 @@ use Rattle.book_model.specs.numbers.Fractions.{fraction_of}
 use Rattle.book_model.specs.programs.Leading.{units_of_56}
 use Rattle.book_model.specs.numbers.Series.{four_fifths, sine_term, cosine_term}
 use Rattle.encl_core.specs.Units.{at_64}
+use Rattle.trig_series.specs.declared.waves.Coefficients.{Coefficients}
 
 -- c is x, rounded down
 pub record IsCut (c : ℕ) (x : Fraction) : Type 0 where
   pub not_above : at_64 (pos c) ≤F x
   pub close : x ≤F at_64 (pos c +ℤ pos 1)
+
+-- the coefficients of a series grow from that of the greatest power on, and all but the constant are at most a half
+pub record AreGrowing (r : Coefficients) : Type 0 where
+  pub eighth : r.ninth ≤ r.eighth
+  pub seventh : r.eighth ≤ r.seventh
+  pub sixth : r.seventh ≤ r.sixth
+  pub fifth : r.sixth ≤ r.fifth
+  pub fourth : r.fifth ≤ r.fourth
+  pub third : r.fourth ≤ r.third
+  pub second : r.third ≤ r.second
+  pub first : r.second ≤ r.first
+  pub constant : r.first ≤ r.constant
+  pub half : 2 * r.first ≤ 2 ^ 64
 
 -- x is at most 68 above a, and from 0 to 4/5
 pub record IsAngle (a : ℕ) (x : Fraction) : Type 0 where

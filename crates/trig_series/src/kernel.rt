@@ -10,8 +10,8 @@
 //! - a sine is known to 384: 4/5 of 320 are 256, the angle's 68, and rounding adds 1.
 //!
 //! One scale for every kind of enclosure, whose own scale the endpoints get by `from_span`. Each step is inlined: the
-//! terms run as one line of multiplications, with no loop, no table and no bounds checks.
-ghost use Rattle.std.specs.Prelude.{◌≤◌, ◌*◌, ◌-◌, ◌^◌, ℕ, pos, ◌-ℤ◌, ◌+ℤ◌};
+//! terms run as one line of multiplications, with no loop and no branch.
+ghost use Rattle.std.specs.Prelude.{◌≡◌, ◌≤◌, ◌*◌, ◌-◌, ◌/◌, ◌^◌, ℕ, pos, ◌-ℤ◌, ◌+ℤ◌};
 ghost use Rattle.book_model.specs.Fraction.{Fraction, ◌≤F◌, plus, opposite, times};
 ghost use Rattle.book_model.specs.Interval.{zero_fraction, between, ◌⊆◌};
 ghost use Rattle.book_model.specs.programs.Leading.{units_of_56};
@@ -19,8 +19,10 @@ ghost use Rattle.book_model.specs.numbers.Octants.{radians};
 ghost use Rattle.book_model.specs.numbers.Series.{sine_series, cosine_series};
 ghost use Rattle.encl_core.specs.parts.TheConstants.{OCTANT};
 ghost use Rattle.encl_core.specs.Units.{at_64, IsWithinUnits};
+ghost use Rattle.trig_series.specs.declared.waves.Wave.TheVariants.{Cosine, Sine};
 ghost use Rattle.trig_series.specs.Kernel.{IsCut, IsSquare, IsAngle, AreSineEndpoints, AreCosineEndpoints, IsInRadians};
 
+use crate::waves::Wave;
 use encl_core::high_half;
 
 /// One step of Horner's form: a coefficient less a square times what stands further in.
@@ -35,40 +37,39 @@ fn step(coefficient: u64, square: u64, inner: u64) -> u64
     coefficient - high_half(square, inner)
 }
 
-/// The sine of an angle from 0 to 4/5: within 384 for each angle that is at most 68 greater.
+/// A sine is its angle times the sum of its series, a cosine the sum itself. Both are there before one is taken: a choice of two numbers
+/// takes no branch, and a product that one of them alone needs would.
 #[inline(always)]
-fn sine_of_angle_64(angle: u64) -> u64
-    requires small { angle ≤ 14757395258967641292 }
-    ensures near { (n : ℕ) (x : Fraction) → 8 ≤ n → IsAngle angle x → AreSineEndpoints x result n }
+fn of_sum(wave: Wave, angle: u64, sum: u64) -> u64
+    ensures sine { wave ≡ Sine → result ≡ angle * sum / 2 ^ 64 }
+    ensures cosine { wave ≡ Cosine → result ≡ sum }
 {
-    let square = high_half(angle, angle);
-    let h = step(14_106_527, square, 51_862);
-    let g = step(2_962_370_717, square, h);
-    let f = step(462_129_831_893, square, g);
-    let e = step(50_834_281_508_238, square, f);
-    let d = step(3_660_068_268_593_165, square, e);
-    let c = step(153_722_867_280_912_930, square, d);
-    let b = step(3_074_457_345_618_258_602, square, c);
-    let a = step(18_446_744_073_709_551_615, square, b);
-    high_half(angle, a)
+    let product = high_half(angle, sum);
+    match wave {
+        Wave::Sine => product,
+        Wave::Cosine => sum,
+    }
 }
 
-/// The cosine of an angle from 0 to 4/5: within 320 for each angle that is at most 68 greater.
+/// The sine or the cosine of an angle from 0 to 4/5, for each angle that is at most 68 greater: within 384 and within 320.
 #[inline(always)]
-fn cosine_of_angle_64(angle: u64) -> u64
+fn wave_of_angle_64(wave: Wave, angle: u64) -> u64
     requires small { angle ≤ 14757395258967641292 }
-    ensures near { (n : ℕ) (x : Fraction) → 9 ≤ n → IsAngle angle x → AreCosineEndpoints x result n }
+    ensures sine { wave ≡ Sine → (n : ℕ) (x : Fraction) → 8 ≤ n → IsAngle angle x → AreSineEndpoints x result n }
+    ensures cosine { wave ≡ Cosine → (n : ℕ) (x : Fraction) → 9 ≤ n → IsAngle angle x → AreCosineEndpoints x result n }
 {
+    let series = wave.coefficients();
     let square = high_half(angle, angle);
-    let i = step(881_657, square, 2_881);
-    let h = step(211_597_908, square, i);
-    let g = step(38_510_819_324, square, h);
-    let f = step(5_083_428_150_823, square, g);
-    let e = step(457_508_533_574_145, square, f);
-    let d = step(25_620_477_880_152_155, square, e);
-    let c = step(768_614_336_404_564_650, square, d);
-    let b = step(9_223_372_036_854_775_808, square, c);
-    step(18_446_744_073_709_551_615, square, b)
+    let i = step(series.eighth, square, series.ninth);
+    let h = step(series.seventh, square, i);
+    let g = step(series.sixth, square, h);
+    let f = step(series.fifth, square, g);
+    let e = step(series.fourth, square, f);
+    let d = step(series.third, square, e);
+    let c = step(series.second, square, d);
+    let b = step(series.first, square, c);
+    let a = step(series.constant, square, b);
+    of_sum(wave, angle, a)
 }
 
 /// So many degrees of an octant, in units of 2⁻⁵⁶, in radians: at most 68 less. The factor is pi · 2⁶⁹ / 180.
@@ -84,19 +85,34 @@ fn angle(degrees: u64) -> u64
     high_half(degrees * 4, 10_302_605_451_487_463_560) * 2
 }
 
+/// The sine or the cosine of so many degrees of an octant, in units of 2⁻⁵⁶: within 384 and within 320.
+#[inline(always)]
+pub fn wave_of_degrees_56(wave: Wave, degrees: u64) -> u64
+    requires octant { degrees ≤ OCTANT }
+    ensures sine { wave ≡ Sine → (n : ℕ) (x : Fraction) → 8 ≤ n → IsInRadians degrees x → AreSineEndpoints x result n }
+    ensures cosine { wave ≡ Cosine → (n : ℕ) (x : Fraction) → 9 ≤ n → IsInRadians degrees x
+        → AreCosineEndpoints x result n }
+    ensures near_sine { wave ≡ Sine → (n : ℕ) → 12 ≤ n → sine_series n (radians n (units_of_56 (pos degrees)))
+        ⊆ between (at_64 (pos result -ℤ pos 384)) (at_64 (pos result +ℤ pos 384)) }
+    ensures near_cosine { wave ≡ Cosine → (n : ℕ) → 12 ≤ n → cosine_series n (radians n (units_of_56 (pos degrees)))
+        ⊆ between (at_64 (pos result -ℤ pos 320)) (at_64 (pos result +ℤ pos 320)) }
+{
+    wave_of_angle_64(wave, angle(degrees))
+}
+
 /// The sine of so many degrees of an octant, in units of 2⁻⁵⁶, within 384.
-pub fn sine_of_degrees_56(degrees: u64) -> u64
+pub(crate) fn sine_of_degrees_56(degrees: u64) -> u64
     requires octant { degrees ≤ OCTANT }
     ensures near { (n : ℕ) → 12 ≤ n → sine_series n (radians n (units_of_56 (pos degrees)))
         ⊆ between
         (at_64 (pos result -ℤ pos 384)) (at_64 (pos result +ℤ pos 384)) }
     ensures endpoints { (n : ℕ) (x : Fraction) → 8 ≤ n → IsInRadians degrees x → AreSineEndpoints x result n }
 {
-    sine_of_angle_64(angle(degrees))
+    wave_of_degrees_56(Wave::Sine, degrees)
 }
 
 /// The cosine of so many degrees of an octant, in units of 2⁻⁵⁶, within 320.
-pub fn cosine_of_degrees_56(degrees: u64) -> u64
+pub(crate) fn cosine_of_degrees_56(degrees: u64) -> u64
     requires octant { degrees ≤ OCTANT }
     ensures near { (n : ℕ) → 12 ≤ n → cosine_series n (radians n (units_of_56 (pos degrees)))
         ⊆ between
@@ -104,5 +120,5 @@ pub fn cosine_of_degrees_56(degrees: u64) -> u64
     ensures endpoints { (n : ℕ) (x : Fraction) → 9 ≤ n → IsInRadians degrees x
         → AreCosineEndpoints x result n }
 {
-    cosine_of_angle_64(angle(degrees))
+    wave_of_degrees_56(Wave::Cosine, degrees)
 }

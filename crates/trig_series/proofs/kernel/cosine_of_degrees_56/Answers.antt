@@ -1,11 +1,8 @@
-use Rattle.trig_series.proofs.KernelAngles.{cosine_there}
+use Rattle.std.proofs.Common.{refl}
 use Rattle.trig_series.proofs.kernel.cosine_of_degrees_56.Goals as goal
 
 pub returns : goal.returns
 returns c = record {
-  near =
-      λ n m. cosine_there n c.args.degrees c.angle.result c.cosine_of_angle_64.result m c.requires.octant
-      (c.angle.ensures.near n m)
-      (λ x l t. c.cosine_of_angle_64.ensures.near n x l t);
-  endpoints = λ n x l t. c.cosine_of_angle_64.ensures.near n x l (c.angle.ensures.there x t);
+  near = c.wave_of_degrees_56.ensures.near_cosine refl;
+  endpoints = c.wave_of_degrees_56.ensures.cosine refl;
 }
