@@ -1,3 +1,4 @@
 pub mod Rightness
 pub mod Evaluations
 pub mod Nearness
+pub mod Sharing

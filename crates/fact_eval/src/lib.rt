@@ -8,6 +8,7 @@
 #![tactic(auto)]
 
 pub mod laws;
+mod shared;
 mod staged;
 
 pub use staged::{Staged, answer_over, evaluate, is_close};

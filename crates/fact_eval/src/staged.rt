@@ -9,6 +9,7 @@ ghost use Rattle.book_model.specs.programs.Widths.{IsClose};
 ghost use Rattle.fact_eval.specs.Answers.{answer_of, AreCloseAnywhere, IsCloseAnswer, IsCloseAnywhere};
 ghost use Rattle.day_facts.specs.WholeDays.{IsNoWholeDay};
 
+use crate::shared::Shared;
 use book_model::{FIRST_DAY, Fact, Fail, LAST_DAY, Site, Undecided};
 use day_facts::{PhaseLinearModel, formula, trail_with_first_moon};
 use encl_core::{Coarse, Enclosure, Trail};
@@ -40,6 +41,7 @@ impl<E: Enclosure> Beginning<E> {
 #[derive(Drop)]
 pub struct Staged {
     coarse: Beginning<Coarse>,
+    shared: Shared,
 }
 
 impl Staged {
@@ -47,7 +49,20 @@ impl Staged {
     pub fn new() -> Staged {
         Staged {
             coarse: Beginning::<Coarse>::new(),
+            shared: Shared::new(),
         }
+    }
+
+    /// The answer for a fact over coarse enclosures, in a run that begins with what others have found about its day, and leaves them what
+    /// it has found.
+    fn coarse_answer(&self, fact: Fact) -> Answer
+        ensures right { IsCloseAnswer result → IsRightAnswer fact result }
+    {
+        let mut trail = self.coarse.trail.anew();
+        self.shared.lend(fact.day(), &mut trail);
+        let answer = answer_on::<Coarse>(&self.coarse.linear_model, fact, &mut trail);
+        self.shared.take(fact.day(), &trail);
+        answer
     }
 }
 
@@ -102,6 +117,21 @@ fn answer(found: Result<i64, Fail>) -> Answer
     }
 }
 
+/// The answer for a fact by enclosures of one kind, in a run that has made no test.
+fn answer_on<E: Enclosure>(
+    linear_model: &PhaseLinearModel<E>,
+    fact: Fact,
+    trail: &mut Trail,
+) -> Answer
+    requires fresh { trail.old.count ≡ 0 }
+    requires least { 36 ≤ E.BITS }
+    requires most { E.BITS ≤ 56 }
+    ensures right { IsCloseAnswer result → IsRightAnswer fact result }
+    ensures close { E.BITS ≡ 56 → IsCloseAnswer result }
+{
+    answer(evaluate_by::<E>(linear_model, fact, trail))
+}
+
 /// The answer for a fact by enclosures of one kind, in a run that begins with what serves every fact.
 fn answer_from<E: Enclosure>(beginning: &Beginning<E>, fact: Fact) -> Answer
     requires least { 36 ≤ E.BITS }
@@ -110,7 +140,7 @@ fn answer_from<E: Enclosure>(beginning: &Beginning<E>, fact: Fact) -> Answer
     ensures close { E.BITS ≡ 56 → IsCloseAnswer result }
 {
     let mut trail = beginning.trail.anew();
-    answer(evaluate_by::<E>(&beginning.linear_model, fact, &mut trail))
+    answer_on::<E>(&beginning.linear_model, fact, &mut trail)
 }
 
 // The bounds on values are proved for these scales. What it says of an undecided test it says of each
@@ -155,7 +185,7 @@ pub fn is_close(answer: &Answer) -> bool
 
 impl Evaluator for Staged {
     fn eval(&self, fact: Fact) -> Answer {
-        match answer_from::<Coarse>(&self.coarse, fact) {
+        match self.coarse_answer(fact) {
             // By the same formulas, and the fine run's answer is the answer: its bounds are narrower.
             Answer::Undecided(_) => answer_over::<Fine>(fact),
             decided => decided,
