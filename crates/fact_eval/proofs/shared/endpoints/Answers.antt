@@ -1,27 +1,23 @@
-use Rattle.std.proofs.Common.{rules, arith, SFits, w64, pos, ◌^◌, ◌-ℤ◌, ◌+ℤ◌}
+use Rattle.std.specs.Int.{w128}
+use Rattle.std.proofs.Common.{rules, arith, SFits, w64, ◌+ℤ◌}
 use Rattle.std.proofs.lemmas.Int.{ints, to_z-of_z}
 use Rattle.fact_eval.proofs.shared.endpoints.Goals as goal
 
-pub returns-clause-low : goal.returns-clause-low
-returns-clause-low c =
-    let fa : SFits w64 c.above_least.result = search rules in
-    let fb : SFits w64 (c.above_least.result -ℤ pos (2 ^ 39)) =
-    omega (arith, ints, c.above_least.ensures.few, c.above_least.ensures.from) in
-    let fc : SFits w64 (c.args.about +ℤ (c.above_least.result -ℤ pos (2 ^ 39))) =
-    omega (arith, ints, c.requires.low, c.requires.high, c.above_least.ensures.few, c.above_least.ensures.from) in
-    let v = c.above_least.ensures.value in
-    let l = simp to_z-of_z at c.span_from.ensures.low in
-    omega (arith, ints, l, v)
-
 pub returns-clause-high : goal.returns-clause-high
 returns-clause-high c =
-    let fa : SFits w64 c.above_least.result = search rules in
-    let fw : SFits w64 c.width.result = search rules in
-    let fb : SFits w64 (c.above_least.result -ℤ pos (2 ^ 39)) =
-    omega (arith, ints, c.above_least.ensures.few, c.above_least.ensures.from) in
-    let fc : SFits w64 (c.args.about +ℤ (c.above_least.result -ℤ pos (2 ^ 39))) =
-    omega (arith, ints, c.requires.low, c.requires.high, c.above_least.ensures.few, c.above_least.ensures.from) in
-    let v = c.above_least.ensures.value in
-    let t = c.width.ensures.value in
-    let h = simp to_z-of_z at c.span_from.ensures.high in
-    omega (arith, ints, h, v, t)
+    let fl : SFits w64 c.lower_36-lower.result = search rules in
+    let fw : SFits w64 c.width_36.result = search rules in
+    let fb : SFits w64 (c.lower_36-lower.result +ℤ c.width_36.result) =
+    omega (
+      arith,
+      ints,
+      c.lower_36-lower.ensures.low,
+      c.lower_36-lower.ensures.high,
+      c.width_36.ensures.few,
+      c.width_36.ensures.from,
+    ) in
+    let l = c.lower_36-lower.ensures.value in
+    let t = c.width_36.ensures.value in
+    let h = simp to_z-of_z at c.in_56-hi.ensures in
+    let fr : SFits w128 c.in_56-hi.result = search rules in
+    simp to_z-of_z (rw (l, t) at h)
