@@ -7,3 +7,4 @@ pub mod Measured
 pub mod Evenings
 pub mod Thresholds
 pub mod Days
+pub mod KnownEvenings

@@ -1,7 +1,8 @@
 //! Shaukat's criterion: whether the crescent is seen on an evening.
 ghost use Rattle.book_model.specs.programs.Calls.{Decides, Decides1, Decides2, Decides3};
-ghost use Rattle.std.specs.Prelude.{◌≡◌, ◌≤◌, ◌^◌, ◌≤ℤ◌, pos, IfErr, ◌-ℤ◌};
+ghost use Rattle.std.specs.Prelude.{◌≡◌, ◌≤◌, ◌^◌, ◌≤ℤ◌, ◌*◌, pos, IfErr, ◌-ℤ◌};
 ghost use Rattle.book_model.specs.programs.Widths.{IsAbout, IsClose, Closes1};
+ghost use Rattle.moon_core.specs.MoonPlaces.{IsMeasuredPlace, IsPlaceOf};
 ghost use Rattle.rise_set.specs.Widths.{IsNarrowLocation};
 ghost use Rattle.rise_set.specs.Altitudes.{IsAltitudeSine, IsMoonAngle, IsMoonLatitude, IsTilt};
 ghost use Rattle.crescent.specs.Widths.{IsArcCosine, IsDatedEvening, IsEvening, IsSiderealTime};
@@ -18,7 +19,7 @@ use crate::evening::Evenings;
 use book_model::crescent_tables::{LEAST_ALTITUDE, LEAST_ARC_OF_LIGHT};
 use book_model::{Fail, Location, Site};
 use encl_core::{Enclosure, Trail, less_step};
-use moon_core::{latitude_again, longitude_at, moon_elements, phase};
+use moon_core::{MoonPlace, count_again, latitude_again, longitude_again, placed_phase};
 use rise_set::{altitude_sine, cos_deg, obliquity_at, sin_deg};
 use time_scales::sidereal;
 
@@ -133,23 +134,27 @@ fn meets<E: Enclosure>(
     is_crescent(phase, arc, altitude, trail)
 }
 
-/// The same at a moment of universal time, by the phase and the obliquity: eight tests at most (`meets_with_few`).
+/// The same at a moment of universal time, by the phase, the obliquity and the moon's place then, whose tests count and aren't made
+/// anew: eight tests at most (`meets_with_few`).
 #[tactic(auto, using(book_model::proofs::Leads::leading), unfolding(book_model::specs::sky::Crescent::meets_with_of))]
 fn meets_with<E: Enclosure>(
     location: &Location,
     t: E,
     phase: E,
     obliquity: E,
+    place: MoonPlace<E>,
     trail: &mut Trail,
 ) -> Result<bool, Fail>
-    ensures leads { Decides3 E.shown (spec.meets_with_of location.now) t phase obliquity
-        trail.old.count trail.new.count result }
+    ensures leads { (w : World) (x f o : Expression) → IsPlaceOf E.shown w x place
+        → Within E.shown w x t → Within E.shown w f phase → Within E.shown w o obliquity
+        → Leads w Exact (spec.meets_with_of location.now x f o) trail.old.count trail.new.count
+        result }
     ensures close { E.BITS ≡ 56 → IsNarrowLocation location.now → IsDatedEvening (E.shown t)
-        → IsMoonAngle (E.shown phase) → IsTilt (E.shown obliquity) → IfErr result IsClose }
+        → IsMoonAngle (E.shown phase) → IsTilt (E.shown obliquity)
+        → IsMeasuredPlace E.shown E.BITS (9 * 2 ^ 29) place → IfErr result IsClose }
 {
-    let elements = moon_elements(t, trail)?;
-    let longitude = longitude_at(elements, trail)?;
-    let north = latitude_again(elements, trail);
+    let longitude = longitude_again(place, trail);
+    let north = latitude_again(place.elements, trail);
     let greenwich = sidereal(t, trail)?;
     meets(
         location, phase, obliquity, longitude, north, greenwich, trail,
@@ -164,16 +169,16 @@ fn meets_at<E: Enclosure>(location: &Location, t: E, trail: &mut Trail) -> Resul
     ensures close { E.BITS ≡ 56 → IsNarrowLocation location.now → IsEvening (E.shown t)
         → IfErr result IsClose }
 {
-    let young = phase(t, trail)?;
+    let young = placed_phase(t, trail)?;
     let tilt = obliquity_at(t, trail)?;
-    meets_with(location, t, young, tilt, trail)
+    meets_with(location, t, young.angle, tilt, young.place, trail)
 }
 
 /// Whether the crescent is seen on the evening with which a day (R.D.) begins: 151 tests at most (`visible_few`), those of
 /// `visible`.
 #[tactic(auto, using(book_model::proofs::Leads::leading), unfolding(book_model::specs::sky::Crescent::visible_of))]
-pub(crate) fn visible_on<E: Enclosure>(
-    evenings: &Evenings<E>,
+fn test_visible<E: Enclosure>(
+    evenings: &Evenings<'_, E>,
     day: i64,
     trail: &mut Trail,
 ) -> Result<bool, Fail>
@@ -185,6 +190,29 @@ pub(crate) fn visible_on<E: Enclosure>(
 {
     let t = evenings.on(day, trail)?;
     meets_at(&evenings.location(), t, trail)
+}
+
+/// The same, where what is known of the evening is taken, and what is found is kept. Tests of an evening that is known count, and aren't
+/// made anew.
+pub(crate) fn visible_on<E: Enclosure>(
+    evenings: &Evenings<'_, E>,
+    day: i64,
+    trail: &mut Trail,
+) -> Result<bool, Fail>
+    requires low { first_fact_day ≤ℤ day }
+    ensures leads { Decides (spec.visible_of evenings.now day) trail.old.count trail.new.count
+        result }
+    ensures close { E.BITS ≡ 56 → IsNarrowLocation evenings.now → IsFactDay (day -ℤ pos 1)
+        → IfErr result IsClose }
+{
+    if let Some(sighting) = evenings.known(day) {
+        count_again(sighting.tests, trail);
+        return Ok(sighting.is_seen);
+    }
+    let before = trail.count();
+    let is_seen = test_visible(evenings, day, trail)?;
+    evenings.learn(day, is_seen, before, trail.count());
+    Ok(is_seen)
 }
 
 /// Whether the crescent is seen at a location on the evening with which a day (R.D.) begins, by Shaukat's criterion (Reingold and
@@ -201,5 +229,5 @@ pub fn visible<E: Enclosure>(location: &Location, day: i64, trail: &mut Trail) -
         → IfErr result IsClose }
 {
     let evenings = Evenings::<E>::new(location);
-    visible_on(&evenings, day, trail)
+    test_visible(&evenings, day, trail)
 }

@@ -14,6 +14,7 @@ ghost use Rattle.book_model.specs.declared.fact.TheConstants.{FIRST_FACT_DAY as 
 
 use crate::criterion::visible_on;
 use crate::evening::Evenings;
+use crate::sightings::Observer;
 use book_model::{Fail, Location};
 use encl_core::{DayTest, Enclosure, Trail, first_day};
 use moon_core::{PhaseLinearModel, phase_day};
@@ -34,7 +35,7 @@ const SEEN_DAYS: i64 = 4;
 const DAYS_ON: i64 = 29;
 
 /// The test of a day: whether the crescent is seen on the evening with which it begins.
-impl<E: Enclosure> DayTest<E> for Evenings<E> {
+impl<'a, E: Enclosure> DayTest<E> for Evenings<'a, E> {
     ghost test_of = { λ l d. spec.visible_of l d };
 
     ghost near_on = { λ l d. IsNarrowLocation l × IsFactDay (d -ℤ pos 1) };
@@ -70,7 +71,7 @@ fn start(new_moon: i64, is_seen: bool) -> i64
 /// The same, where the day may come before the crescent of the last new moon: 151 tests at most (`start_few`).
 #[tactic(auto, using(book_model::proofs::Leads::leading), unfolding(book_model::specs::sky::Crescent::visibility_start_of))]
 fn visibility_start<E: Enclosure>(
-    evenings: &Evenings<E>,
+    evenings: &Evenings<'_, E>,
     day: i64,
     new_moon: i64,
     trail: &mut Trail,
@@ -93,7 +94,7 @@ fn visibility_start<E: Enclosure>(
 /// The first day (R.D.) from a day on on whose evening before the crescent is seen.
 #[tactic(auto, using(book_model::proofs::Leads::leading))]
 fn first_visibility<E: Enclosure>(
-    evenings: &Evenings<E>,
+    evenings: &Evenings<'_, E>,
     from: i64,
     trail: &mut Trail,
 ) -> Result<i64, Fail>
@@ -104,13 +105,13 @@ fn first_visibility<E: Enclosure>(
     ensures to { IfOk result (λ d. d ≤ℤ (from +ℤ pos 45)) }
     ensures close { E.BITS ≡ 56 → IsNarrowLocation evenings.now → IfErr result IsClose }
 {
-    first_day::<E, Evenings<E>>(evenings, from, trail)
+    first_day::<E, Evenings<'_, E>>(evenings, from, trail)
 }
 
 /// The same, from where the new moon of a day tells.
 #[tactic(auto, using(book_model::proofs::Leads::leading), unfolding(book_model::specs::sky::Crescent::visibility_after_of))]
 fn visibility_after<E: Enclosure>(
-    evenings: &Evenings<E>,
+    evenings: &Evenings<'_, E>,
     day: i64,
     new_moon: i64,
     trail: &mut Trail,
@@ -127,24 +128,40 @@ fn visibility_after<E: Enclosure>(
     first_visibility(evenings, from, trail)
 }
 
-/// `phasis`, where the linear models of the moon and the sun are known over the usual days.
+/// The same for the evenings at a location, by the linear models of the moon and the sun.
 #[tactic(auto, using(book_model::proofs::Leads::leading), unfolding(book_model::specs::sky::Crescent::phasis_of))]
-pub fn phasis_by<E: Enclosure>(
+fn phasis_on<E: Enclosure>(
     linear_model: &PhaseLinearModel<E>,
-    location: &Location,
+    evenings: &Evenings<'_, E>,
     day: i64,
     trail: &mut Trail,
 ) -> Result<i64, Fail>
     requires day { IsFactDay day }
-    ensures leads { Decides (spec.phasis_of location.now day) trail.old.count trail.new.count result }
+    ensures leads { Decides (spec.phasis_of evenings.now day) trail.old.count trail.new.count result }
     ensures value { IfOk result IsFactValue }
     ensures early { trail.old.count ≡ 0 → 36 ≤ E.BITS → E.BITS ≤ 56 → IsValueDay day
         → IfErr result IsNoEarlyYear }
-    ensures close { E.BITS ≡ 56 → IsNarrowLocation location.now → IfErr result IsClose }
+    ensures close { E.BITS ≡ 56 → IsNarrowLocation evenings.now → IfErr result IsClose }
 {
     let new_moon = phase_day::<E>(linear_model, NEW_MOON, day, trail)?;
-    let evenings = Evenings::<E>::new(location);
-    visibility_after(&evenings, day, new_moon, trail)
+    visibility_after(evenings, day, new_moon, trail)
+}
+
+/// `phasis` for one who looks, where the linear models of the moon and the sun are known over the usual days.
+pub fn phasis_by<E: Enclosure>(
+    linear_model: &PhaseLinearModel<E>,
+    observer: &Observer<'_>,
+    day: i64,
+    trail: &mut Trail,
+) -> Result<i64, Fail>
+    requires day { IsFactDay day }
+    ensures leads { Decides (spec.phasis_of observer.now day) trail.old.count trail.new.count result }
+    ensures value { IfOk result IsFactValue }
+    ensures early { trail.old.count ≡ 0 → 36 ≤ E.BITS → E.BITS ≤ 56 → IsValueDay day
+        → IfErr result IsNoEarlyYear }
+    ensures close { E.BITS ≡ 56 → IsNarrowLocation observer.now → IfErr result IsClose }
+{
+    phasis_on(linear_model, &Evenings::<E>::of(observer), day, trail)
 }
 
 /// The last day (R.D.) before a day, or the day itself, on whose evening before the crescent was first seen at a location by
@@ -160,7 +177,7 @@ pub fn phasis<E: Enclosure>(location: &Location, day: i64, trail: &mut Trail) ->
     ensures close { E.BITS ≡ 56 → IsNarrowLocation location.now → IfErr result IsClose }
 {
     let linear_model = PhaseLinearModel::<E>::usual();
-    phasis_by(&linear_model, location, day, trail)
+    phasis_on(&linear_model, &Evenings::<E>::new(location), day, trail)
 }
 
 /// Whether a day (R.D.) is so late after a new moon that its crescent has been seen.
@@ -195,7 +212,7 @@ fn day_before(day: i64) -> i64
 /// The same, where the crescent of the last new moon may be one that is seen from the day on: 151 tests at most.
 #[tactic(auto, using(book_model::proofs::Leads::leading), unfolding(book_model::specs::sky::Nisan::sought_start_of))]
 fn sought_start<E: Enclosure>(
-    evenings: &Evenings<E>,
+    evenings: &Evenings<'_, E>,
     day: i64,
     new_moon: i64,
     trail: &mut Trail,
@@ -218,7 +235,7 @@ fn sought_start<E: Enclosure>(
 /// it tells.
 #[tactic(auto, using(book_model::proofs::Leads::leading), unfolding(book_model::specs::sky::Nisan::visibility_by_of))]
 fn visibility_by<E: Enclosure>(
-    evenings: &Evenings<E>,
+    evenings: &Evenings<'_, E>,
     day: i64,
     new_moon: i64,
     trail: &mut Trail,
@@ -243,17 +260,17 @@ fn visibility_by<E: Enclosure>(
 #[tactic(auto, using(book_model::proofs::Leads::leading), unfolding(book_model::specs::sky::Nisan::visibility_from_of))]
 pub fn visibility_from_by<E: Enclosure>(
     linear_model: &PhaseLinearModel<E>,
-    location: &Location,
+    observer: &Observer<'_>,
     day: i64,
     trail: &mut Trail,
 ) -> Result<i64, Fail>
     requires day { IsFactDay day }
-    ensures leads { Decides (nisan.visibility_from_of location.now day) trail.old.count trail.new.count
+    ensures leads { Decides (nisan.visibility_from_of observer.now day) trail.old.count trail.new.count
         result }
     ensures value { IfOk result IsFactValue }
-    ensures close { E.BITS ≡ 56 → IsNarrowLocation location.now → IfErr result IsClose }
+    ensures close { E.BITS ≡ 56 → IsNarrowLocation observer.now → IfErr result IsClose }
 {
     let new_moon = phase_day::<E>(linear_model, NEW_MOON, day, trail)?;
-    let evenings = Evenings::<E>::new(location);
+    let evenings = Evenings::<E>::of(observer);
     visibility_by(&evenings, day, new_moon, trail)
 }

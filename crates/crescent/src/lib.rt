@@ -5,6 +5,7 @@
 //! - `visible`: the criterion, by the moon's phase, its arc of light and its altitude at dusk;
 //! - `phasis`: the search for the day of the first visibility; `phasis_by`: the same by linear models; `visibility_from_by`: the search
 //!   from a day on;
+//! - `Sightings`: what runs share of evenings; `Observer`: a place and what is known of evenings there;
 //! - `Sunsets`, `sunset`, and `HinduSunsets`, `hsunset`, `sunrise` at Ujjain: of `rise_set`, re-exported to the facts.
 #![tactic(auto)]
 
@@ -12,8 +13,10 @@ mod arc_of_light;
 mod criterion;
 mod evening;
 mod first_visibility;
+mod sightings;
 
 pub use arc_of_light::arc_cosine;
 pub use criterion::visible;
 pub use first_visibility::{phasis, phasis_by, visibility_from_by};
 pub use rise_set::{HinduSunsets, Sunsets, hsunset, sunrise, sunset};
+pub use sightings::{Observer, Sightings};

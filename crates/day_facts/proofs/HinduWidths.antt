@@ -15,7 +15,7 @@ use Rattle.book_model.specs.numbers.Bounds.{integer_bound, constant_bound, sum_b
 use Rattle.book_model.specs.numbers.Expressions.{Expression, argument, constant, integer, add, scale}
 use Rattle.book_model.specs.numbers.Fractions.{fraction_of}
 use Rattle.book_model.specs.numbers.Relations.{Narrow, Keeps}
-use Rattle.book_model.specs.programs.Widths.{IsAbout, IsMoment, IsUpTo, IsDated, IsFrom, IsSince}
+use Rattle.book_model.specs.programs.Widths.{IsAbout, IsMoment, IsUpTo, IsFrom, IsSince}
 use Rattle.book_model.specs.sky.Sidereal.{years_gone_of}
 use Rattle.book_model.proofs.Implying.{limits_within}
 use Rattle.rise_set.specs.declared.hindu.TheConstants.{FIRST_HINDU_DAY}

@@ -21,16 +21,19 @@ use crate::solstice::solstice;
 use crate::sun::sun_in_thousandths;
 use crate::sunsets::{bahai_year, sunset_in_minutes};
 use book_model::{Fail, Kind, Place};
+use crescent::Sightings;
 use encl_core::{Enclosure, Trail};
 use moon_core::PhaseLinearModel;
 use moon_rise::{moonrise, moonset};
 
 // That a value stays within 10,000,000 is proved of runs and not of enclosures: the bounds of these
 // lose the signs of terms, and are too wide in many years before 1987.
-/// The value that the formula of a kind of fact gives at a place on a day (R.D.): one line for each kind.
+/// The value that the formula of a kind of fact gives at a place on a day (R.D.): one line for each kind. `sightings` holds what earlier runs
+/// have decided of evenings, and takes what this one decides.
 #[tactic(auto, using(crate::proofs::KindFailures::keeping), unfolding(book_model::specs::sky::Facts::formula_of))]
 pub fn formula<E: Enclosure>(
     linear_model: &PhaseLinearModel<E>,
+    sightings: &Sightings,
     kind: Kind,
     place: Place,
     day: i64,
@@ -54,7 +57,7 @@ pub fn formula<E: Enclosure>(
         Kind::Major => major::<E>(place, day, trail),
         Kind::MajorTerm => term_day::<E>(linear_model.sun(), place, 0, day, trail),
         Kind::MinorTerm => term_day::<E>(linear_model.sun(), place, 15, day, trail),
-        Kind::Phasis => phasis::<E>(linear_model, place, day, trail),
+        Kind::Phasis => phasis::<E>(linear_model, sightings, place, day, trail),
         Kind::Sign => sign_at_sunset::<E>(linear_model.sun(), day, trail),
         Kind::SolarYear => solar_year::<E>(day, trail),
         Kind::Sankranti => sankranti::<E>(linear_model.sun(), day, trail),
@@ -71,6 +74,6 @@ pub fn formula<E: Enclosure>(
         Kind::Moonrise => moonrise::<E>(place, day, trail),
         Kind::Moonset => moonset::<E>(place, day, trail),
         Kind::FrenchYear => french_year::<E>(linear_model.sun(), day, trail),
-        Kind::Nisan => nisan::<E>(linear_model, place, day, trail),
+        Kind::Nisan => nisan::<E>(linear_model, sightings, place, day, trail),
     }
 }

@@ -13,7 +13,7 @@
 //!
 //! A call that takes a linear model of the sun, or of the moon and the sun, takes that of an interval that holds the moments that it
 //! asks, or of all days (`SunLinearModel::always`, `PhaseLinearModel::usual`); `moonrise` and `moonset` stand in `moon_rise`. What the evaluator
-//! begins with, of `moon_core`, is re-exported to it.
+//! begins with, of `moon_core`, and what its runs share of evenings, of `crescent`, is re-exported to it.
 #![tactic(auto)]
 
 mod distances;
@@ -35,6 +35,7 @@ mod sun;
 mod sunsets;
 mod zodiac;
 
+pub use crescent::Sightings;
 pub use hindu_days::{
     calendar_year, sankranti, sign_after, sign_at_sunset, sign_before, solar_year, tithi,
 };

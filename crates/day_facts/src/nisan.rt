@@ -11,7 +11,7 @@ ghost use Rattle.crescent.specs.SkyWidths.{IsNarrowLocation};
 ghost use Rattle.time_scales.specs.Steps.{IsNoEarlyYear};
 
 use book_model::{Fail, Location, Place, Site};
-use crescent::{sunset, visibility_from_by};
+use crescent::{Observer, Sightings, sunset, visibility_from_by};
 use encl_core::{Enclosure, Trail, floor_step, less_step};
 use moon_core::{PhaseLinearModel, SunLinearModel, sun_from_by};
 
@@ -74,20 +74,20 @@ fn start(equinox: i64, is_before: bool) -> i64
 #[tactic(auto, using(book_model::proofs::Leads::leading), unfolding(crate::specs::Nisan::nisan_on_of))]
 fn nisan_on<E: Enclosure>(
     linear_model: &PhaseLinearModel<E>,
-    location: &Location,
+    observer: &Observer<'_>,
     t: E,
     equinox: i64,
     trail: &mut Trail,
 ) -> Result<i64, Fail>
     requires day { IsEquinoxDay equinox }
-    ensures leads { Decides1 E.shown (nisan_on_of location.now equinox) t trail.old.count
+    ensures leads { Decides1 E.shown (nisan_on_of observer.now equinox) t trail.old.count
         trail.new.count result }
     ensures value { IfOk result IsFactValue }
-    ensures close { E.BITS ≡ 56 → IsNarrowLocation location.now → IsMoment (2 ^ 33) (E.shown t)
+    ensures close { E.BITS ≡ 56 → IsNarrowLocation observer.now → IsMoment (2 ^ 33) (E.shown t)
         → IfErr result IsClose }
 {
-    let is_before = is_before_sunset(location, t, equinox, trail)?;
-    visibility_from_by(linear_model, location, start(equinox, is_before), trail)
+    let is_before = is_before_sunset(&observer.location(), t, equinox, trail)?;
+    visibility_from_by(linear_model, observer, start(equinox, is_before), trail)
 }
 
 /// The first day (R.D.) of Nisan at a location about the spring equinox that is next from a day on: 8,400 tests at most
@@ -95,19 +95,19 @@ fn nisan_on<E: Enclosure>(
 #[tactic(auto, using(book_model::proofs::Leads::leading), unfolding(book_model::specs::sky::Nisan::nisan_of, book_model::specs::sky::Nisan::nisan_by_of, crate::specs::Nisan::next_equinox_of, crate::specs::Nisan::nisan_on_of))]
 fn nisan_at<E: Enclosure>(
     linear_model: &PhaseLinearModel<E>,
-    location: &Location,
+    observer: &Observer<'_>,
     day: i64,
     trail: &mut Trail,
 ) -> Result<i64, Fail>
     requires day { IsValueDay day }
-    ensures leads { Decides (spec.nisan_of location.now day) trail.old.count trail.new.count result }
+    ensures leads { Decides (spec.nisan_of observer.now day) trail.old.count trail.new.count result }
     ensures value { IfOk result IsFactValue }
     ensures early { trail.old.count ≡ 0 → 36 ≤ E.BITS → E.BITS ≤ 56 → IfErr result IsNoEarlyYear }
-    ensures close { E.BITS ≡ 56 → IsNarrowLocation location.now → IfErr result IsClose }
+    ensures close { E.BITS ≡ 56 → IsNarrowLocation observer.now → IfErr result IsClose }
 {
     let t = next_equinox(linear_model.sun(), day, trail)?;
     let equinox = floor_step(t, Site::DayFloor, trail)?;
-    nisan_on(linear_model, location, t, equinox, trail)
+    nisan_on(linear_model, observer, t, equinox, trail)
 }
 
 /// The first day (R.D.) of Nisan at a place about the spring equinox that is next from a day on: the month about the equinox, by when
@@ -117,6 +117,7 @@ fn nisan_at<E: Enclosure>(
 #[tactic(auto, using(book_model::proofs::Leads::leading), unfolding(book_model::specs::sky::Kinds::located))]
 pub(crate) fn nisan<E: Enclosure>(
     linear_model: &PhaseLinearModel<E>,
+    sightings: &Sightings,
     place: Place,
     day: i64,
     trail: &mut Trail,
@@ -129,7 +130,10 @@ pub(crate) fn nisan<E: Enclosure>(
     ensures close { E.BITS ≡ 56 → IfErr result IsClose }
 {
     match place.location() {
-        Some(location) => nisan_at::<E>(linear_model, &location, day, trail),
+        Some(location) => {
+            let observer = Observer::new(place, location, sightings);
+            nisan_at::<E>(linear_model, &observer, day, trail)
+        }
         None => Err(Fail::Void(Site::Year)),
     }
 }

@@ -10,6 +10,7 @@ ghost use Rattle.book_model.specs.sky.Phases.{phase_day_of};
 ghost use Rattle.time_scales.specs.Steps.{IsNoEarlyYear};
 
 use book_model::{Fail, Place, Site};
+use crescent::{Observer, Sightings};
 use encl_core::{Enclosure, Trail};
 use moon_core::PhaseLinearModel;
 
@@ -37,6 +38,7 @@ pub(crate) fn phase_day<E: Enclosure>(
 #[tactic(auto, using(book_model::proofs::Leads::leading), unfolding(book_model::specs::sky::Kinds::located))]
 pub(crate) fn phasis<E: Enclosure>(
     linear_model: &PhaseLinearModel<E>,
+    sightings: &Sightings,
     place: Place,
     day: i64,
     trail: &mut Trail,
@@ -49,7 +51,10 @@ pub(crate) fn phasis<E: Enclosure>(
     ensures close { E.BITS ≡ 56 → IfErr result IsClose }
 {
     match place.location() {
-        Some(location) => crescent::phasis_by::<E>(linear_model, &location, day, trail),
+        Some(location) => {
+            let observer = Observer::new(place, location, sightings);
+            crescent::phasis_by::<E>(linear_model, &observer, day, trail)
+        }
         None => Err(Fail::Void(Site::Year)),
     }
 }

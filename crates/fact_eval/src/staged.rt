@@ -11,7 +11,7 @@ ghost use Rattle.day_facts.specs.WholeDays.{IsNoWholeDay};
 
 use crate::shared::Shared;
 use book_model::{FIRST_DAY, Fact, Fail, LAST_DAY, Site, Undecided};
-use day_facts::{PhaseLinearModel, formula, trail_with_first_moon};
+use day_facts::{PhaseLinearModel, Sightings, formula, trail_with_first_moon};
 use encl_core::{Coarse, Enclosure, Trail};
 use fix_fine::Fine;
 use oracle_core::{Answer, Evaluator};
@@ -37,11 +37,13 @@ impl<E: Enclosure> Beginning<E> {
 // Of a quarter of a million facts 59 ask the fine kind: what serves it is made where one does, which
 // spares a start a sixth of its instructions.
 /// Evaluates each fact over coarse enclosures, and over fine ones where these leave a test undecided. What every fact may ask it
-/// has evaluated once, over the coarse kind.
+/// has evaluated once, over the coarse kind; and later ones are lent what a run finds of ΔT, new moons and
+/// evenings.
 #[derive(Drop)]
 pub struct Staged {
     coarse: Beginning<Coarse>,
     shared: Shared,
+    sightings: Sightings,
 }
 
 impl Staged {
@@ -50,6 +52,7 @@ impl Staged {
         Staged {
             coarse: Beginning::<Coarse>::new(),
             shared: Shared::new(),
+            sightings: Sightings::new(),
         }
     }
 
@@ -60,7 +63,12 @@ impl Staged {
     {
         let mut trail = self.coarse.trail.anew();
         self.shared.lend(fact.day(), &mut trail);
-        let answer = answer_on::<Coarse>(&self.coarse.linear_model, fact, &mut trail);
+        let answer = answer_on::<Coarse>(
+            &self.coarse.linear_model,
+            &self.sightings,
+            fact,
+            &mut trail,
+        );
         self.shared.take(fact.day(), &trail);
         answer
     }
@@ -74,9 +82,10 @@ fn may_have_value(day: i64) -> bool
     FIRST_DAY <= day && day <= LAST_DAY
 }
 
-/// `evaluate`, where the linear models of the moon and the sun are known over the usual days.
+/// `evaluate`, where the linear models of the moon and the sun are known over the usual days, and with what runs share of evenings.
 fn evaluate_by<E: Enclosure>(
     linear_model: &PhaseLinearModel<E>,
+    sightings: &Sightings,
     fact: Fact,
     trail: &mut Trail,
 ) -> Result<i64, Fail>
@@ -90,7 +99,14 @@ fn evaluate_by<E: Enclosure>(
     if !may_have_value(day) {
         return Err(Fail::Void(Site::Year));
     }
-    formula::<E>(linear_model, fact.kind(), fact.place(), day, trail)
+    formula::<E>(
+        linear_model,
+        sightings,
+        fact.kind(),
+        fact.place(),
+        day,
+        trail,
+    )
 }
 
 /// The value of a fact by its formula over enclosures of one kind. It fails where a test is undecided, and over enclosures of the scale
@@ -103,7 +119,7 @@ pub fn evaluate<E: Enclosure>(fact: Fact, trail: &mut Trail) -> Result<i64, Fail
     ensures close { E.BITS ≡ 56 → IfErr result IsClose }
 {
     let linear_model = PhaseLinearModel::<E>::usual();
-    evaluate_by(&linear_model, fact, trail)
+    evaluate_by(&linear_model, &Sightings::new(), fact, trail)
 }
 
 /// The answer that a result is.
@@ -120,6 +136,7 @@ fn answer(found: Result<i64, Fail>) -> Answer
 /// The answer for a fact by enclosures of one kind, in a run that has made no test.
 fn answer_on<E: Enclosure>(
     linear_model: &PhaseLinearModel<E>,
+    sightings: &Sightings,
     fact: Fact,
     trail: &mut Trail,
 ) -> Answer
@@ -129,7 +146,7 @@ fn answer_on<E: Enclosure>(
     ensures right { IsCloseAnswer result → IsRightAnswer fact result }
     ensures close { E.BITS ≡ 56 → IsCloseAnswer result }
 {
-    answer(evaluate_by::<E>(linear_model, fact, trail))
+    answer(evaluate_by::<E>(linear_model, sightings, fact, trail))
 }
 
 /// The answer for a fact by enclosures of one kind, in a run that begins with what serves every fact.
@@ -140,7 +157,7 @@ fn answer_from<E: Enclosure>(beginning: &Beginning<E>, fact: Fact) -> Answer
     ensures close { E.BITS ≡ 56 → IsCloseAnswer result }
 {
     let mut trail = beginning.trail.anew();
-    answer_on::<E>(&beginning.linear_model, fact, &mut trail)
+    answer_on::<E>(&beginning.linear_model, &Sightings::new(), fact, &mut trail)
 }
 
 // The bounds on values are proved for these scales. What it says of an undecided test it says of each

@@ -18,3 +18,5 @@ pub mod PhaseDays
 pub mod Measured
 pub mod QuarterWidths
 pub mod HigherTerms
+pub mod Replays
+pub mod MoonPlaces

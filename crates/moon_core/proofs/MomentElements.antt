@@ -12,12 +12,13 @@ use Rattle.book_model.specs.numbers.Fractions.{fraction_of}
 use Rattle.book_model.specs.numbers.Relations.{Within}
 use Rattle.book_model.specs.programs.Leading.{Leads, Reports, passes, answers, next_turn}
 use Rattle.book_model.specs.programs.Programs.{Grid, Program, Run, after_cell, answer, answered, bind, cell_at, run}
-use Rattle.book_model.specs.programs.Programs.{voided, years}
+use Rattle.book_model.specs.programs.Programs.{voided, years, multiples}
 use Rattle.book_model.specs.sky.Correction.{Correction, row_of_year, year_of}
+use Rattle.book_model.specs.sky.Moon.{moon_longitude_of}
 use Rattle.book_model.specs.sky.Time.{by_row, centuries_of, correction_at, correction_of_year, dynamical_of}
 use Rattle.book_model.specs.sky.Time.{in_centuries as centuries_from}
 use Rattle.book_model.proofs.Leads.{leads_answer, leads_bind}
-use Rattle.moon_core.specs.Elements.{AreElements, HoldElements}
+use Rattle.moon_core.specs.Elements.{AreElements, HoldElements, reduced_longitude_of}
 use Rattle.moon_core.specs.declared.elements.MoonElements.{MoonElements}
 use Rattle.sun_core.specs.Daily.{in_centuries}
 
@@ -76,5 +77,18 @@ unfolding centuries_of dynamical_of correction_at correction_of_year year_of bin
 centuries_again {w = w} x {y = y} h k = record {
   reports =
       cell_again _ years (value w x) (cell_at years (value w x)) _ y k (λ q. time_steady w x q (row_of_year q) y)
+      h.reports;
+}
+
+-- ---- one test of the turn, and the longitude, wherever the run stands
+pub longitude_steady : {T : Type 0} {w : World} {R : Expression → T → Type 0} (t : Expression) {b a : ℕ} {y : T}
+    → Leads w R (reduced_longitude_of t) b a (Ok y) → (k : ℕ) → Leads w R (reduced_longitude_of t) k (next_turn k)
+    (Ok y)
+unfolding reduced_longitude_of run
+longitude_steady {w = w} t {y = y} h k = record {
+  reports =
+      cell_again _ (multiples 360) (value w (moon_longitude_of t))
+      (cell_at (multiples 360) (value w (moon_longitude_of t))) _ y k
+      (λ q. record { steady = λ b a k h. answer_steady _ y b a k h })
       h.reports;
 }

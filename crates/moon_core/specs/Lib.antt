@@ -7,3 +7,5 @@ pub mod Elements
 pub mod Widths
 pub mod PhaseDays
 pub mod HigherTerms
+pub mod Replays
+pub mod MoonPlaces

@@ -2,9 +2,9 @@
 ghost use Rattle.book_model.specs.declared.moon_tables.TheConstants.{LATITUDE_ARGUMENT, MOON_LONGITUDE};
 ghost use Rattle.book_model.specs.numbers.Polynomials.{quartic_of};
 ghost use Rattle.book_model.specs.programs.Calls.{Follows1};
-ghost use Rattle.book_model.specs.programs.Leading.{Leads};
+ghost use Rattle.book_model.specs.programs.Leading.{Leads, next_turn};
 ghost use Rattle.book_model.specs.programs.Widths.{IsAbout, IsMoment, IsUpTo, Measured1, Measures, Answers1};
-ghost use Rattle.std.specs.Prelude.{◌≡◌, ◌≤◌, ℕ, ◌+◌, ◌^◌, IfOk, IfErr};
+ghost use Rattle.std.specs.Prelude.{◌≡◌, ◌≤◌, ℕ, ◌+◌, ◌^◌, Ok, IfOk, IfErr};
 ghost use Rattle.book_model.specs.Interval.{Interval};
 ghost use Rattle.book_model.specs.numbers.Bounds.{Reach, limits_of};
 ghost use Rattle.book_model.specs.numbers.Expressions.{Expression, World, argument};
@@ -12,6 +12,7 @@ ghost use Rattle.book_model.specs.sky.Moon as spec;
 ghost use Rattle.book_model.specs.numbers.Relations.{Within, Narrow};
 ghost use Rattle.moon_core.specs.Daily.{daily_quartic_of, days_from_2000, computed_flattening_of, inequalities_by};
 ghost use Rattle.moon_core.specs.Elements.{AreMeasured, HoldElements, reduced_longitude_of};
+ghost use Rattle.moon_core.specs.MoonPlaces.{HasLongitude, IsMeasuredPlace, IsPlaceOf};
 ghost use Rattle.moon_core.specs.Widths.{days_and, longitude_bound};
 ghost use Rattle.sun_core.specs.Daily.{in_centuries};
 ghost use Rattle.time_scales.specs.Steps.{IsYearUndecidedFor};
@@ -81,15 +82,45 @@ pub fn longitude_at<E: Enclosure>(elements: MoonElements<E>, trail: &mut Trail) 
     ensures wide { (v : ℕ) → E.BITS ≡ 56 → v ≤ 2 ^ 40
         → AreMeasured E.shown E.BITS v elements
         → IfOk result (λ l. IsUpTo 360 (greatest_of MOON v) (E.shown l)) }
+    ensures again { IfOk result (λ l. (w : World) (x : Expression) → HoldElements E.shown w x elements
+        → (k : ℕ) → Leads w (Within E.shown w) (reduced_longitude_of (in_centuries x)) k (next_turn k)
+        (Ok l)) }
     ensures elsewhere { (i : Interval) → IfErr result (IsYearUndecidedFor i) }
 {
     wrap_step(longitude(elements), 360, Site::MoonWrap, trail)
 }
 
+/// The moon's place at a moment: the elements of the moment, and its apparent longitude by them, in degrees from 0 up to 360.
+#[derive(Clone, Copy, Drop)]
+pub struct MoonPlace<E> {
+    pub elements: MoonElements<E>,
+    pub longitude: E,
+}
+
+/// The place at a moment of universal time, by the tests of `moon`.
+#[tactic(auto, using(book_model::proofs::Leads::leading), unfolding(book_model::specs::sky::Moon::moon_of))]
+pub(crate) fn moon_place<E: Enclosure>(t: E, trail: &mut Trail) -> Result<MoonPlace<E>, Fail>
+    ensures leads { (w : World) (x : Expression) → Within E.shown w x t
+        → Leads w (HasLongitude E.shown w) (spec.moon_of x) trail.old.count trail.new.count result }
+    ensures again { IfOk result (λ p. (w : World) (x : Expression) → Within E.shown w x t
+        → IsPlaceOf E.shown w x p) }
+    ensures measured { (v : ℕ) → E.BITS ≡ 56 → v ≤ 2 ^ 39 → IsMoment v (E.shown t)
+        → Measures (IsMeasuredPlace E.shown E.BITS v) result }
+    ensures wide { (v : ℕ) → E.BITS ≡ 56 → v ≤ 2 ^ 40 → IsMoment v (E.shown t)
+        → IfOk result (λ p. IsUpTo 360 (greatest_of MOON v) (E.shown p.longitude)) }
+    ensures open { IfErr result (IsYearUndecidedFor (E.shown t)) }
+{
+    let elements = moon_elements(t, trail)?;
+    let longitude = longitude_at(elements, trail)?;
+    Ok(MoonPlace {
+        elements,
+        longitude,
+    })
+}
+
 /// The apparent longitude of the moon at a moment of universal time, in degrees from 0 up to 360 (Reingold and
 /// Dershowitz, Calendrical Calculations, chapter 14; Meeus, Astronomical Algorithms, chapter 47). Two tests, the year's and
 /// the one at `moon-wrap`. It is void at `year` in a year without ΔT.
-#[tactic(auto, using(book_model::proofs::Leads::leading), unfolding(book_model::specs::sky::Moon::moon_of))]
 pub fn moon<E: Enclosure>(t: E, trail: &mut Trail) -> Result<E, Fail>
     ensures leads { Follows1 E.shown spec.moon_of t trail.old.count trail.new.count result }
     ensures measured { Measured1 E.BITS E.shown (2 ^ 39) IsMoment
@@ -99,6 +130,18 @@ pub fn moon<E: Enclosure>(t: E, trail: &mut Trail) -> Result<E, Fail>
         result }
     ensures open { IfErr result (IsYearUndecidedFor (E.shown t)) }
 {
-    let elements = moon_elements(t, trail)?;
-    longitude_at(elements, trail)
+    let place = moon_place(t, trail)?;
+    Ok(place.longitude)
+}
+
+/// The same by the place, where a run has that of the moment. Its two tests aren't made anew, since they are decided as they were, but
+/// they count.
+pub fn longitude_again<E: Enclosure>(place: MoonPlace<E>, trail: &mut Trail) -> E
+    ensures leads { (w : World) (x : Expression) → IsPlaceOf E.shown w x place
+        → Leads w (Within E.shown w) (spec.moon_of x) trail.old.count trail.new.count (Ok result) }
+    ensures same { result ≡ place.longitude }
+{
+    trail.step();
+    trail.step();
+    place.longitude
 }

@@ -1,6 +1,10 @@
 //! The moon's phase, and the number of the new moon about a moment, roughly.
 ghost use Rattle.book_model.specs.programs.Calls.{Decides1, Encloses1, Follows1, Follows2, Holds2};
-ghost use Rattle.book_model.specs.programs.Widths.{IsAbout, IsMoment, IsSmall, IsUpTo, IsWithin, Measured1, Measured2, Answers1, Answers2, Closes1};
+ghost use Rattle.book_model.specs.programs.Widths.{IsAbout, IsMoment, IsSmall, IsUpTo, IsWithin, Measured1, Measured2, Measures, Answers1, Answers2, Closes1};
+ghost use Rattle.book_model.specs.programs.Leading.{Leads};
+ghost use Rattle.book_model.specs.numbers.Expressions.{Expression, World};
+ghost use Rattle.book_model.specs.numbers.Relations.{Within};
+ghost use Rattle.moon_core.specs.MoonPlaces.{HasAngle, IsMeasuredPlace, IsPlaceOf};
 ghost use Rattle.std.specs.Prelude.{◌≡◌, ℕ, ◌≤◌, ◌+◌, ◌*◌, ◌/◌, ◌^◌, ℤ, pos, negsuc, ◌≤ℤ◌, IfOk, IfErr};
 ghost use Rattle.book_model.specs.Interval.{Interval};
 ghost use Rattle.book_model.specs.declared.new_moon_tables.TheConstants.{LAST_TABLE_MOON as last_moon};
@@ -10,7 +14,7 @@ ghost use Rattle.time_scales.specs.Steps.{IsYearUndecidedFor, IsEarlyYearFor};
 ghost use Rattle.encl_core.specs.declared.greatest_widths.TheConstants.{PHASE};
 ghost use Rattle.encl_core.specs.GreatestWidths.{greatest_of};
 
-use crate::longitude::moon;
+use crate::longitude::{MoonPlace, moon_place};
 use book_model::new_moon_tables::{DAY_IN_MONTHS, TURN};
 use book_model::tables::HALF;
 use book_model::{Fail, Site};
@@ -31,21 +35,34 @@ pub(crate) fn within_turn<E: Enclosure>(angle: E, trail: &mut Trail) -> Result<E
     wrap_step(angle, 360, Site::PhaseWrap, trail)
 }
 
+/// An angle of the moon at a moment, in degrees, and its place then.
+#[derive(Clone, Copy, Drop)]
+pub struct PlacedAngle<E> {
+    pub angle: E,
+    pub place: MoonPlace<E>,
+}
+
 /// The longitude of the moon less that of the sun, from 0 up to 360 degrees, at a moment of the years of which ΔT is
 /// known: five tests at most (`elongation_few`).
 #[tactic(auto, using(book_model::proofs::Leads::leading), unfolding(book_model::specs::sky::Phases::elongation_of))]
-fn elongation<E: Enclosure>(t: E, trail: &mut Trail) -> Result<E, Fail>
-    ensures leads { Follows1 E.shown spec.elongation_of t trail.old.count trail.new.count result }
-    ensures measured { Measured1 E.BITS E.shown (2 ^ 39) IsMoment
-        (λ v. IsUpTo 360 (22 * v + 17 * 2 ^ 32)) t result }
-    ensures wide { Answers1 E.BITS E.shown (2 ^ 40) IsMoment
-        (λ v. IsUpTo 360 (22 * v + 17 * 2 ^ 32)) t result }
+fn elongation<E: Enclosure>(t: E, trail: &mut Trail) -> Result<PlacedAngle<E>, Fail>
+    ensures leads { (w : World) (x : Expression) → Within E.shown w x t
+        → Leads w (HasAngle E.shown w) (spec.elongation_of x) trail.old.count trail.new.count result }
+    ensures again { IfOk result (λ p. (w : World) (x : Expression) → Within E.shown w x t
+        → IsPlaceOf E.shown w x p.place) }
+    ensures measured { (v : ℕ) → E.BITS ≡ 56 → v ≤ 2 ^ 39 → IsMoment v (E.shown t)
+        → Measures (λ p. IsUpTo 360 (22 * v + 17 * 2 ^ 32) (E.shown p.angle)) result }
+    ensures placed { (v : ℕ) → E.BITS ≡ 56 → v ≤ 2 ^ 39 → IsMoment v (E.shown t)
+        → IfOk result (λ p. IsMeasuredPlace E.shown E.BITS v p.place) }
+    ensures wide { (v : ℕ) → E.BITS ≡ 56 → v ≤ 2 ^ 40 → IsMoment v (E.shown t)
+        → IfOk result (λ p. IsUpTo 360 (22 * v + 17 * 2 ^ 32) (E.shown p.angle)) }
     ensures open { IfErr result (IsYearUndecidedFor (E.shown t)) }
     ensures in_table { IfOk result (λ p. IsInTable (E.shown t)) }
 {
-    let there = moon(t, trail)?;
+    let place = moon_place(t, trail)?;
     let longitude = sun(t, trail)?;
-    within_turn(there.sub(longitude), trail)
+    let angle = within_turn(place.longitude.sub(longitude), trail)?;
+    Ok(PlacedAngle { angle, place })
 }
 
 /// The synodic months from the new moon of a number to a moment: one test at most (`months_few`).
@@ -171,12 +188,35 @@ pub(crate) fn corrected<E: Enclosure>(by_longitudes: E, t: E, trail: &mut Trail)
     test_which_phase(by_longitudes, by_time, trail)
 }
 
+/// The phase at a moment of universal time, by the tests of `phase`, and the moon's place then.
+#[tactic(auto, using(book_model::proofs::Leads::leading), unfolding(book_model::specs::sky::Phases::phase_of))]
+pub fn placed_phase<E: Enclosure>(t: E, trail: &mut Trail) -> Result<PlacedAngle<E>, Fail>
+    ensures leads { (w : World) (x : Expression) → Within E.shown w x t
+        → Leads w (HasAngle E.shown w) (spec.phase_of x) trail.old.count trail.new.count result }
+    ensures again { IfOk result (λ p. (w : World) (x : Expression) → Within E.shown w x t
+        → IsPlaceOf E.shown w x p.place) }
+    ensures measured { (v : ℕ) → E.BITS ≡ 56 → v ≤ 3 * 2 ^ 37 → IsMoment v (E.shown t)
+        → Measures (λ p. IsUpTo 360 (greatest_of PHASE v) (E.shown p.angle)) result }
+    ensures placed { (v : ℕ) → E.BITS ≡ 56 → v ≤ 3 * 2 ^ 37 → IsMoment v (E.shown t)
+        → IfOk result (λ p. IsMeasuredPlace E.shown E.BITS v p.place) }
+    ensures wide { (v : ℕ) → E.BITS ≡ 56 → v ≤ 2 ^ 40 → IsMoment v (E.shown t)
+        → IfOk result (λ p. IsUpTo 360 (greatest_of PHASE v) (E.shown p.angle)) }
+    ensures in_table { IfOk result (λ p. IsInTable (E.shown t)) }
+    ensures early { trail.old.count ≡ 0 → IfErr result (IsEarlyYearFor (E.shown t)) }
+{
+    let by_longitudes = elongation(t, trail)?;
+    let angle = corrected(by_longitudes.angle, t, trail)?;
+    Ok(PlacedAngle {
+        angle,
+        place: by_longitudes.place,
+    })
+}
+
 /// The phase of the moon at a moment of universal time, in degrees: its longitude less the sun's, from 0 up to 360, or,
 /// where the moment is so near a new moon that this is a turn off, the time since the new moon in its place (Reingold
 /// and Dershowitz, Calendrical Calculations, chapter 14). Ten tests: five of the longitudes, two of the number of the new
 /// moon about the moment, two of the time since that, and one that picks. It is void at `year` in a year without
 /// ΔT.
-#[tactic(auto, using(book_model::proofs::Leads::leading), unfolding(book_model::specs::sky::Phases::phase_of))]
 pub fn phase<E: Enclosure>(t: E, trail: &mut Trail) -> Result<E, Fail>
     ensures leads { Follows1 E.shown spec.phase_of t trail.old.count trail.new.count result }
     ensures measured { Measured1 E.BITS E.shown (3 * 2 ^ 37) IsMoment
@@ -187,6 +227,6 @@ pub fn phase<E: Enclosure>(t: E, trail: &mut Trail) -> Result<E, Fail>
     ensures in_table { IfOk result (λ p. IsInTable (E.shown t)) }
     ensures early { trail.old.count ≡ 0 → IfErr result (IsEarlyYearFor (E.shown t)) }
 {
-    let by_longitudes = elongation(t, trail)?;
-    corrected(by_longitudes, t, trail)
+    let placed = placed_phase(t, trail)?;
+    Ok(placed.angle)
 }

@@ -7,13 +7,15 @@
 ghost use Rattle.book_model.specs.programs.Calls.{Decides};
 ghost use Rattle.book_model.specs.programs.Programs.{Program};
 ghost use Rattle.book_model.specs.programs.Widths.{IsClose};
-ghost use Rattle.moon_rise.specs.SteadyIntervals.{HasOneAnswer, turn_after};
+ghost use Rattle.moon_core.specs.Replays.{turn_after};
+ghost use Rattle.moon_rise.specs.SteadyIntervals.{HasOneAnswer};
 ghost use Rattle.std.specs.Prelude.{◌≡◌, ◌<◌, ◌≤◌, ◌-◌, ◌^◌, ℕ, Bool, IfErr, IfSome};
 ghost use Rattle.time_scales.specs.Steps.{IsNotOfYear};
 
 use crate::walk::{AnswerOver, MomentTest};
 use book_model::Fail;
 use encl_core::{Enclosure, Trail};
+use moon_core::count_again;
 
 /// The moments of a quarter of an hour, and of a day.
 const SIXTEENTHS: u32 = 16;
@@ -51,17 +53,6 @@ impl SteadyInterval {
             tests: 0,
             ahead: FIRST_LENGTH,
         }
-    }
-}
-
-/// Counts so many tests that aren't made anew, since they are decided as others were.
-#[tactic(auto, using(crate::proofs::Replays::turns))]
-fn count_again(tests: u32, trail: &mut Trail)
-    ensures counted { trail.new.count ≡ turn_after tests trail.old.count }
-{
-    if tests > 0 {
-        trail.step();
-        count_again(tests - 1, trail);
     }
 }
 

@@ -19,7 +19,7 @@ returns-clause-leads g c = λ w d.
     let f : SFits w64 c.args.day = c.ranges.day in
     let n : SFits w64 c.in_ok-new_moon.new_moon = search rules in
     let m = simp to_z-of_z at (c.in_ok-new_moon.ensures.leads w d) in
-    let l = rw c.new-evenings.ensures.location at (simp to_z-of_z at (c.visibility_by.ensures.leads w d)) in
+    let l = rw c.of-evenings.ensures.location at (simp to_z-of_z at (c.visibility_by.ensures.leads w d)) in
     leads_bind_exact _ m l
 
 pub returns-in_err-new_moon-clause-close : goal.returns-in_err-new_moon-clause-close
@@ -31,5 +31,5 @@ returns-in_err-new_moon-clause-close g c = λ e p.
 
 pub returns-clause-close : goal.returns-clause-close
 returns-clause-close g c = λ e p.
-    let m = rw c.new-evenings.ensures.location at c.visibility_by.ensures.close in
+    let m = rw c.of-evenings.ensures.location at c.visibility_by.ensures.close in
     m e p

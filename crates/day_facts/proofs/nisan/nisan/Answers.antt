@@ -4,7 +4,8 @@ use Rattle.day_facts.proofs.nisan.nisan.Goals as goal
 
 pub returns-in-Some-clause-close : goal.returns-in-Some-clause-close
 returns-in-Some-clause-close g c = λ e.
-    c.nisan_at.ensures.close e (found_is_narrow c.args.place c.in-Some.location c.in-Some.ensures)
+    rw c.new-observer.ensures.location at c.nisan_at.ensures.close e
+    (found_is_narrow c.args.place c.in-Some.location c.in-Some.ensures)
 
 pub returns-in-None-clause-close : goal.returns-in-None-clause-close
 returns-in-None-clause-close g c = λ e. close_void

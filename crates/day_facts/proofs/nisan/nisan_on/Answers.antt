@@ -10,6 +10,6 @@ returns-clause-leads g c = λ w x h.
     let f : SFits w64 c.args.equinox = c.ranges.equinox in
     let n : SFits w64 c.start.result = search rules in
     let s = simp to_z-of_z at c.start.ensures.start in
-    let b = simp to_z-of_z at (c.in_ok-is_before.ensures.leads w x h) in
+    let b = rw c.location.ensures.location at (simp to_z-of_z at (c.in_ok-is_before.ensures.leads w x h)) in
     let l = simp to_z-of_z at (c.visibility_from_by.ensures.leads w h.deep) in
     leads_bind_exact _ b (rw s at l)

@@ -5,8 +5,10 @@ use Rattle.crescent.proofs.Evenings.{depression_within}
 use Rattle.crescent.proofs.evening.Evenings.new.Goals as goal
 
 pub invariant_of-result : goal.invariant_of-result
-invariant_of-result g c =
-    c.horizon_at.ensures.whole (constant (fraction_of CRESCENT_DEPRESSION))
-    (λ w d. c.from_frac-depression.ensures.encloses.holds w d)
-    (λ e p. depression_within g.E.Enclosure.shown _ c.from_frac-depression.result e
-    (λ r. c.from_frac-depression.ensures.encloses.narrow r))
+invariant_of-result g c = (
+  c.horizon_at.ensures.whole (constant (fraction_of CRESCENT_DEPRESSION))
+      (λ w d. c.from_frac.ensures.encloses.holds w d)
+      (λ e p. depression_within g.E.Enclosure.shown _ c.from_frac.result e
+      (λ r. c.from_frac.ensures.encloses.narrow r)),
+  tt,
+)

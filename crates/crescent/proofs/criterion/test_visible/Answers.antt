@@ -3,7 +3,7 @@ use Rattle.std.proofs.lemmas.Int.{to_z-of_z}
 use Rattle.book_model.specs.sky.Crescent.{visible_of}
 use Rattle.book_model.proofs.Leads.{leads_on, leaf_within}
 use Rattle.rise_set.specs.Widths.{IsNarrowLocation}
-use Rattle.crescent.proofs.criterion.visible_on.Goals as goal
+use Rattle.crescent.proofs.criterion.test_visible.Goals as goal
 
 pub returns-clause-leads : goal.returns-clause-leads
 unfolding visible_of

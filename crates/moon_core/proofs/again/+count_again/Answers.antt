@@ -1,6 +1,6 @@
 use Rattle.std.proofs.Common.{arith, ◌≡◌, refl}
-use Rattle.moon_rise.proofs.Replays.{no_turn}
-use Rattle.moon_rise.proofs.steady_intervals.+count_again.Goals as goal
+use Rattle.moon_core.proofs.Replays.{no_turn}
+use Rattle.moon_core.proofs.again.+count_again.Goals as goal
 
 pub returns-else-tests-gt0 : goal.returns-else-tests-gt0
 returns-else-tests-gt0 t c = record {

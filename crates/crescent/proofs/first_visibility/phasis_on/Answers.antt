@@ -7,7 +7,7 @@ use Rattle.book_model.proofs.Early.{phase_day_least, three_made}
 use Rattle.book_model.proofs.Leads.{leads_bind_exact}
 use Rattle.moon_core.proofs.UndecidedTests.{late_is_not_early}
 use Rattle.crescent.proofs.Days.{day_dated}
-use Rattle.crescent.proofs.first_visibility.phasis_by.Goals as goal
+use Rattle.crescent.proofs.first_visibility.phasis_on.Goals as goal
 
 pub returns-clause-leads : goal.returns-clause-leads
 unfolding phasis_of
@@ -15,7 +15,7 @@ returns-clause-leads g c = λ w d.
     let f : SFits w64 c.args.day = c.ranges.day in
     let n : SFits w64 c.in_ok-new_moon.new_moon = search rules in
     let m = simp to_z-of_z at (c.in_ok-new_moon.ensures.leads w d) in
-    let l = rw c.new-evenings.ensures.location at (simp to_z-of_z at (c.visibility_after.ensures.leads w d)) in
+    let l = simp to_z-of_z at (c.visibility_after.ensures.leads w d) in
     leads_bind_exact _ m l
 
 pub returns-clause-early : goal.returns-clause-early
@@ -35,7 +35,7 @@ returns-in_err-new_moon-clause-close g c = λ e p.
 pub returns-clause-close : goal.returns-clause-close
 returns-clause-close g c = λ e p.
     let f : SFits w64 c.args.day = c.ranges.day in
-    let m = rw c.new-evenings.ensures.location at (simp to_z-of_z at c.visibility_after.ensures.close) in
+    let m = simp to_z-of_z at c.visibility_after.ensures.close in
     let l = simp to_z-of_z at c.in_ok-new_moon.ensures.leads in
     let d = day_dated (pos 0) c.args.day _ _ _ l in
     m e p (omega (arith, ints, d.0))
