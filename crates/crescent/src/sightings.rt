@@ -33,7 +33,7 @@ const DAYS: u64 = 1 << 32;
 
 const DAYS_BELOW_0: i64 = 1 << 31;
 
-/// The slots: for the evenings of 48 years at one place, of which a month asks three or four.
+/// The slots: for the days of five and a half years at one place. Of those of a month three or four are asked.
 const SLOTS: usize = 2048;
 
 /// How many slots further those of the next place begin.

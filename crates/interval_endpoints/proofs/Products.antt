@@ -149,7 +149,8 @@ pub corners_apart : (a b x y c d u g : ℤ) → x ≤ℤ y → c ≤ℤ d → (p
     → g ≤ℤ (u +ℤ (a *ℤ (d -ℤ c) +ℤ b *ℤ (y -ℤ x)))
 corners_apart a b x y c d u g o r ax ya bc db bl bg =
     let w = a *ℤ (d -ℤ c) +ℤ b *ℤ (y -ℤ x) in
-    let t = λ (p i q j : ℤ) (xp : x ≤ℤ p) (py : p ≤ℤ y) (ci : c ≤ℤ i) (id : i ≤ℤ d) (xq : x ≤ℤ q) (qy : q ≤ℤ y) (cj : c ≤ℤ j) (jd : j ≤ℤ d).
+    let t = λ (p i q j : ℤ) (xp : x ≤ℤ p) (py : p ≤ℤ y) (ci : c ≤ℤ i) (id : i ≤ℤ d) (xq : x ≤ℤ q) (qy : q ≤ℤ y)
+    (cj : c ≤ℤ j) (jd : j ≤ℤ d).
     apart p q x y c d a b xp py xq qy bc db r ax ya i j ci id cj jd in
     let under = λ (p i : ℤ) (xp : x ≤ℤ p) (py : p ≤ℤ y) (ci : c ≤ℤ i) (id : i ≤ℤ d).
     over_least p i w (t p i x c xp py ci id (≤ℤ_refl x) o (≤ℤ_refl c) r)
