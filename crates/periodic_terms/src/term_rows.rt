@@ -89,6 +89,7 @@ fn row_turn(row: Multiples, turns: &MeanTurns) -> Turns64
     reduced_turn(ManyTurns64(sum_of_multiples(row, turns).0 + ahead.0))
 }
 
+// From an array, since from row to row of a table the power follows no pattern that a branch could be predicted by.
 /// The power of the factor by which a row is multiplied.
 #[inline(always)]
 fn factor(power: u64, factors: MeanFactors) -> Factor56
@@ -96,13 +97,8 @@ fn factor(power: u64, factors: MeanFactors) -> Factor56
     ensures value { result.0 ≡ factor_of factors power }
     ensures small { result.0 ≤ 5 * 2 ^ 54 }
 {
-    if power == 0 {
-        return Factor56(NATURAL_ONE);
-    }
-    if power == 1 {
-        return factors.first;
-    }
-    factors.second
+    let powers = [Factor56(NATURAL_ONE), factors.first, factors.second];
+    powers[power as usize]
 }
 
 /// A factor times a sine, in 2⁻¹¹².
