@@ -1,7 +1,8 @@
 //! The higher terms of a quartic of the time, which are those in its square, its cube and its fourth power. Over an interval of some
 //! days they hardly move, so a linear model takes their sum once, and a moment of the interval only the constant and the linear term.
 ghost use Rattle.book_model.specs.numbers.Bounds.{Reach, limits_of};
-ghost use Rattle.book_model.specs.numbers.Expressions.{Expression, World, power};
+ghost use Rattle.book_model.specs.numbers.Expressions.{Expression, World, add, multiply, power, scale};
+ghost use Rattle.book_model.specs.numbers.Fractions.{fraction_of};
 ghost use Rattle.book_model.specs.numbers.Polynomials.{quartic_of};
 ghost use Rattle.book_model.specs.numbers.Relations.{Within, Narrow};
 ghost use Rattle.book_model.specs.sky.Moon.{lunar_angles_of};
@@ -14,12 +15,12 @@ ghost use Rattle.sun_core.specs.Daily.{in_centuries};
 use crate::angles::daily_cubic;
 use book_model::Quartic;
 use book_model::moon_tables::{
-    ECCENTRICITY_FACTOR, ELONGATION, LATITUDE_ARGUMENT, MOON_ANOMALY, MOON_LONGITUDE, SUN_ANOMALY,
+    ELONGATION, LATITUDE_ARGUMENT, MOON_ANOMALY, MOON_LONGITUDE, SUN_ANOMALY,
 };
 use encl_core::Enclosure;
+use new_moons::eccentricity_factor;
 use periodic_terms::MeanAngles;
 use sun_core::times_rate;
-use time_scales::quadratic;
 
 /// The sums of the higher terms of the moon's mean longitude, its mean elongation from the sun, its mean anomaly and the argument of its
 /// latitude, in degrees.
@@ -31,26 +32,27 @@ pub(crate) struct HigherTerms<E> {
     pub(crate) latitude_argument: E,
 }
 
-/// The sum of the higher terms of one quartic, by the centuries from noon of 1 January 2000, and the square and the cube of these.
+// Without the term in the square: with three products by fractions it would be so large that the compiler drops the hint without a word,
+// and then no denominator there is known.
+/// The sum of a quartic's terms in the cube and the fourth power, by the centuries from noon of 1 January 2000 and the cube of these.
 #[inline(always)]
-#[tactic(auto, using(time_scales::proofs::Powers::fourths), unfolding(crate::specs::HigherTerms::higher_sum_of))]
-fn higher_sum<E: Enclosure>(angle: &Quartic, c: E, square: E, cube: E) -> E
+#[tactic(auto, using(time_scales::proofs::Powers::fourths))]
+fn highest_sum<E: Enclosure>(angle: &Quartic, c: E, cube: E) -> E
     ensures holds { (w : World) (x : Expression) → Within E.shown w x c
-        → Within E.shown w (power x 2) square → Within E.shown w (power x 3) cube
-        → Within E.shown w (higher_sum_of angle.now x) result }
+        → Within E.shown w (power x 3) cube
+        → Within E.shown w (add (scale (fraction_of angle.now.cube) (power x 3))
+        (scale (fraction_of angle.now.fourth) (power x 4))) result }
     ensures narrow { (r : Reach) (x : Expression) → Narrow E.shown (limits_of E.BITS) r x c
-        → Narrow E.shown (limits_of E.BITS) r (power x 2) square
         → Narrow E.shown (limits_of E.BITS) r (power x 3) cube
-        → Narrow E.shown (limits_of E.BITS) r (higher_by angle.now x) result }
+        → Narrow E.shown (limits_of E.BITS) r (add (scale (fraction_of angle.now.cube) (power x 3))
+        (multiply (scale (fraction_of angle.now.fourth) (power x 3)) x)) result }
 {
-    square.mul_frac(angle.square).add(
-        cube.mul_frac(angle.cube)
-            .add(cube.mul_frac(angle.fourth).mul(c)),
-    )
+    cube.mul_frac(angle.cube)
+        .add(cube.mul_frac(angle.fourth).mul(c))
 }
 
 /// The sums of the four, by the centuries from noon of 1 January 2000.
-#[tactic(auto, using(time_scales::proofs::Powers::cubes))]
+#[tactic(auto, using(time_scales::proofs::Powers::cubes), unfolding(crate::specs::HigherTerms::higher_sum_of))]
 pub(crate) fn higher_terms<E: Enclosure>(c: E) -> HigherTerms<E>
     ensures holds { (w : World) (x : Expression) → Within E.shown w x c
         → HoldHigherTerms E.shown w x result }
@@ -60,10 +62,18 @@ pub(crate) fn higher_terms<E: Enclosure>(c: E) -> HigherTerms<E>
     let square = c.square();
     let cube = square.mul(c);
     HigherTerms {
-        longitude: higher_sum(&MOON_LONGITUDE, c, square, cube),
-        elongation: higher_sum(&ELONGATION, c, square, cube),
-        moon_anomaly: higher_sum(&MOON_ANOMALY, c, square, cube),
-        latitude_argument: higher_sum(&LATITUDE_ARGUMENT, c, square, cube),
+        longitude: square
+            .mul_frac(MOON_LONGITUDE.square)
+            .add(highest_sum(&MOON_LONGITUDE, c, cube)),
+        elongation: square
+            .mul_frac(ELONGATION.square)
+            .add(highest_sum(&ELONGATION, c, cube)),
+        moon_anomaly: square
+            .mul_frac(MOON_ANOMALY.square)
+            .add(highest_sum(&MOON_ANOMALY, c, cube)),
+        latitude_argument: square
+            .mul_frac(LATITUDE_ARGUMENT.square)
+            .add(highest_sum(&LATITUDE_ARGUMENT, c, cube)),
     }
 }
 
@@ -99,6 +109,6 @@ pub(crate) fn angles_by<E: Enclosure>(days: E, c: E, higher: HigherTerms<E>) -> 
         sun_anomaly: daily_cubic(&SUN_ANOMALY, days, c),
         moon_anomaly: quartic_by(&MOON_ANOMALY, days, higher.moon_anomaly),
         latitude_argument: quartic_by(&LATITUDE_ARGUMENT, days, higher.latitude_argument),
-        eccentricity: quadratic(&ECCENTRICITY_FACTOR, c),
+        eccentricity: eccentricity_factor(c),
     }
 }

@@ -3,7 +3,8 @@
 //! on.
 //!
 //! - `new_moon`: the moment of a new moon, in universal time;
-//! - `trail_with_first_moon`: a trail that keeps the first new moon that each walk asks.
+//! - `trail_with_first_moon`: a trail that keeps the first new moon that each walk asks;
+//! - `eccentricity_factor`: by which a term is multiplied that takes the sun's anomaly, here and in the moon's longitude.
 #![tactic(auto)]
 
 mod angles;
@@ -11,4 +12,5 @@ mod months;
 mod moons;
 mod planets;
 
+pub use months::eccentricity_factor;
 pub use moons::{new_moon, trail_with_first_moon};

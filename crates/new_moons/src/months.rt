@@ -8,14 +8,15 @@ ghost use Rattle.std.specs.Prelude.{◌≡◌, ◌≤◌, ◌<◌, ◌-◌, ◌*
 ghost use Rattle.book_model.specs.declared.new_moon_tables.TheConstants.{MEAN_NEW_MOON as MEAN, NEW_MOON_ANOMALY as MOON, NEW_MOON_LATITUDE_ARGUMENT as LATITUDE, NEW_MOON_NODE as NODE, NEW_MOON_SUN_ANOMALY as SUN, RECENT_DAYS};
 ghost use Rattle.book_model.specs.numbers.Depth.{DEPTH};
 ghost use Rattle.book_model.specs.numbers.Bounds.{Reach, limits_of};
-ghost use Rattle.book_model.specs.numbers.Expressions.{Expression, World};
+ghost use Rattle.book_model.specs.numbers.Expressions.{Expression, World, multiply, scale};
 ghost use Rattle.book_model.specs.numbers.Fractions.{fraction_of};
-ghost use Rattle.book_model.specs.numbers.Polynomials.{polynomial_at};
+ghost use Rattle.book_model.specs.numbers.Polynomials.{polynomial_at, quadratic_of};
 ghost use Rattle.book_model.specs.numbers.Relations.{Narrow, Within};
+ghost use Rattle.book_model.specs.programs.Calls.{Encloses1, Encloses2};
 ghost use Rattle.book_model.specs.programs.Widths.{IsAbout};
 ghost use Rattle.book_model.specs.sky.NewMoons.{centuries_of_months, new_moon_angles_of};
 ghost use Rattle.new_moons.specs.Angles.{HoldAngles};
-ghost use Rattle.new_moons.specs.Months.{HoldPowers, cubic_sum, quartic_sum};
+ghost use Rattle.new_moons.specs.Months.{HoldPowers, cubic_sum};
 ghost use Rattle.new_moons.specs.Widths.{AreNearAngles, ArePowers, IsNearMonth, IsNearTime, IsRecentMonth};
 
 use crate::angles::Angles;
@@ -26,7 +27,6 @@ use book_model::new_moon_tables::{
     NEW_MOON_SUN_ANOMALY,
 };
 use encl_core::Enclosure;
-use time_scales::quadratic;
 
 /// The first two terms of a polynomial by months: so many parts at the new moon of January 2000, and so many more a month, where so many
 /// parts are a day or a degree. They are those of the polynomial's table: a century has 1236.85 months, and a second coefficient over
@@ -132,28 +132,13 @@ fn cubic_at<E: Enclosure>(first: E, square: Frac, cube: Frac, powers: Powers<E>)
 }
 
 // The fourth power is the scaled cube times the time: the power itself is too large for the fine kind.
-/// A quartic polynomial by its first two terms.
+/// The last term of a quartic polynomial.
 #[inline(always)]
-fn quartic_at<E: Enclosure>(
-    first: E,
-    square: Frac,
-    cube: Frac,
-    fourth: Frac,
-    powers: Powers<E>,
-) -> E
-    ensures holds { (w : World) (f s k c : Expression) → Within E.shown w f first
-        → Within E.shown w s powers.square → Within E.shown w k powers.cube
-        → Within E.shown w c powers.centuries
-        → Within E.shown w
-        (quartic_sum (fraction_of square) (fraction_of cube) (fraction_of fourth) f s k c) result }
-    ensures narrow { (r : Reach) (f s k c : Expression) → Narrow E.shown (limits_of E.BITS) r f first
-        → Narrow E.shown (limits_of E.BITS) r s powers.square
-        → Narrow E.shown (limits_of E.BITS) r k powers.cube
-        → Narrow E.shown (limits_of E.BITS) r c powers.centuries
-        → Narrow E.shown (limits_of E.BITS) r
-        (quartic_sum (fraction_of square) (fraction_of cube) (fraction_of fourth) f s k c) result }
+fn fourth_at<E: Enclosure>(fourth: Frac, powers: Powers<E>) -> E
+    ensures encloses { Encloses2 E.shown E.BITS (λ k c. multiply (scale (fraction_of fourth) k) c) powers.cube
+        powers.centuries result }
 {
-    cubic_at(first, square, cube, powers).add(powers.cube.mul_frac(fourth).mul(powers.centuries))
+    powers.cube.mul_frac(fourth).mul(powers.centuries)
 }
 
 /// The mean new moon, in days from noon of 1 January 2000.
@@ -167,13 +152,13 @@ pub(crate) fn mean_by_months<E: Enclosure>(number: i64, powers: Powers<E>) -> E
     ensures recent { E.BITS ≡ 56 → IsRecentMonth number → ArePowers E.shown powers
         → IsAbout (RECENT_DAYS * 2 ^ 32) (2 ^ 15) (E.shown result) }
 {
-    quartic_at(
+    cubic_at(
         E::from_frac(first_terms(MEAN_BY_MONTHS, number)),
         MEAN_NEW_MOON[2],
         MEAN_NEW_MOON[3],
-        MEAN_NEW_MOON[4],
         powers,
     )
+    .add(fourth_at(MEAN_NEW_MOON[4], powers))
 }
 
 /// The longitude of the moon's ascending node.
@@ -219,13 +204,13 @@ fn moon_anomaly_by_months<E: Enclosure>(number: i64, powers: Powers<E>) -> E
     ensures measured { E.BITS ≡ 56 → IsNearMonth number → ArePowers E.shown powers
         → IsAbout (2 ^ 57) (2 ^ 15) (E.shown result) }
 {
-    quartic_at(
+    cubic_at(
         E::from_frac(first_terms(MOON_BY_MONTHS, number)),
         NEW_MOON_ANOMALY[2],
         NEW_MOON_ANOMALY[3],
-        NEW_MOON_ANOMALY[4],
         powers,
     )
+    .add(fourth_at(NEW_MOON_ANOMALY[4], powers))
 }
 
 /// The argument of the moon's latitude.
@@ -237,13 +222,23 @@ fn latitude_by_months<E: Enclosure>(number: i64, powers: Powers<E>) -> E
     ensures measured { E.BITS ≡ 56 → IsNearMonth number → ArePowers E.shown powers
         → IsAbout (2 ^ 57) (2 ^ 15) (E.shown result) }
 {
-    quartic_at(
+    cubic_at(
         E::from_frac(first_terms(LATITUDE_BY_MONTHS, number)),
         NEW_MOON_LATITUDE_ARGUMENT[2],
         NEW_MOON_LATITUDE_ARGUMENT[3],
-        NEW_MOON_LATITUDE_ARGUMENT[4],
         powers,
     )
+    .add(fourth_at(NEW_MOON_LATITUDE_ARGUMENT[4], powers))
+}
+
+/// The factor of the eccentricity of the earth's orbit, by the centuries from noon of 1 January 2000.
+#[tactic(auto, unfolding(book_model::specs::numbers::Polynomials::quadratic_of))]
+pub fn eccentricity_factor<E: Enclosure>(c: E) -> E
+    ensures encloses { Encloses1 E.shown E.BITS (quadratic_of ECCENTRICITY_FACTOR) c result }
+{
+    E::from_frac(ECCENTRICITY_FACTOR.constant)
+        .add(c.mul_frac(ECCENTRICITY_FACTOR.linear))
+        .add(c.square().mul_frac(ECCENTRICITY_FACTOR.square))
 }
 
 /// The angles of which the terms are made.
@@ -259,6 +254,6 @@ pub(crate) fn angles_by_months<E: Enclosure>(number: i64, powers: Powers<E>) -> 
         sun_anomaly: sun_anomaly_by_months(number, powers),
         moon_anomaly: moon_anomaly_by_months(number, powers),
         latitude_argument: latitude_by_months(number, powers),
-        eccentricity: quadratic(&ECCENTRICITY_FACTOR, powers.centuries),
+        eccentricity: eccentricity_factor(powers.centuries),
     }
 }

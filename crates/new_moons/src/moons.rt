@@ -1,10 +1,11 @@
 //! The moment of a new moon.
-ghost use Rattle.book_model.specs.programs.Calls.{Encloses, Follows, Holds};
+ghost use Rattle.book_model.specs.programs.Calls.{Encloses, Encloses1, Follows, Holds};
 ghost use Rattle.book_model.specs.programs.Widths.{IsAbout, IsMoment, IsSmall, Measured, IsDated, IsFrom, IsSince};
 ghost use Rattle.std.specs.Prelude.{◌≡◌, ◌≤◌, ◌+◌, ◌^◌, ℤ, pos, negsuc, ◌≤ℤ◌, ◌+ℤ◌};
 ghost use Rattle.book_model.specs.declared.new_moon_tables.TheConstants.{FIRST_RECENT_MOON as first_recent, LAST_RECENT_MOON as last_recent, NEW_MOON_TERMS as NEW_MOON_ROWS};
 ghost use Rattle.book_model.specs.numbers.Depth.{DEPTH};
 ghost use Rattle.book_model.specs.numbers.Expressions.{World};
+ghost use Rattle.book_model.specs.numbers.Polynomials.{quadratic_of};
 ghost use Rattle.book_model.specs.numbers.Relations.{Within};
 ghost use Rattle.book_model.specs.numbers.Terms.{terms_of};
 ghost use Rattle.book_model.specs.numbers.Fractions.{fraction_of};
@@ -25,7 +26,7 @@ use book_model::time_tables::NOON_2000;
 use book_model::{Fail, Frac};
 use encl_core::{Asked, Enclosure, Trail};
 use periodic_terms::{MeanAngles, new_moon_terms, sin_deg};
-use time_scales::{from_dynamical, quadratic};
+use time_scales::from_dynamical;
 
 // An exact fraction: of the polynomials at it only their own steps round.
 /// So many months in units of 1236.85 months, which are centuries.
@@ -92,6 +93,16 @@ fn lunar_terms<E: Enclosure>(number: i64, powers: Powers<E>) -> E
     sum_of_angles(angles_by_months(number, powers))
 }
 
+/// The angle of what Venus adds, in degrees, by the centuries.
+#[tactic(auto, unfolding(book_model::specs::numbers::Polynomials::quadratic_of))]
+fn venus_angle<E: Enclosure>(c: E) -> E
+    ensures encloses { Encloses1 E.shown E.BITS (quadratic_of NEW_MOON_TERM.angle) c result }
+{
+    E::from_frac(NEW_MOON_TERM.angle.constant)
+        .add(c.mul_frac(NEW_MOON_TERM.angle.linear))
+        .add(c.square().mul_frac(NEW_MOON_TERM.angle.square))
+}
+
 /// What Venus adds, in days.
 #[inline(always)]
 #[tactic(auto, unfolding(book_model::specs::numbers::Polynomials::quadratic_term_of, book_model::specs::sky::NewMoons::venus_term_of))]
@@ -100,7 +111,7 @@ fn venus_term<E: Enclosure>(time: Frac) -> E
     ensures measured { E.BITS ≡ 56 → IsNearTime (fraction_of time)
         → IsAbout (2 ^ 32) (2 ^ 12) (E.shown result) }
 {
-    sin_deg(quadratic(&NEW_MOON_TERM.angle, E::from_frac(time))).mul_frac(NEW_MOON_TERM.size)
+    sin_deg(venus_angle(E::from_frac(time))).mul_frac(NEW_MOON_TERM.size)
 }
 
 /// The new moon of a number, counted from that of January 2000, in dynamical time: each polynomial by what a month adds and by powers of

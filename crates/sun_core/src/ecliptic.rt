@@ -1,5 +1,5 @@
 //! The obliquity of the ecliptic.
-ghost use Rattle.book_model.specs.programs.Calls.{Follows1};
+ghost use Rattle.book_model.specs.programs.Calls.{Encloses1, Follows1};
 ghost use Rattle.book_model.specs.programs.Widths.{Measured1, AreCenturies};
 ghost use Rattle.std.specs.Prelude.{◌≡◌, ◌^◌, IfOk};
 ghost use Rattle.book_model.specs.numbers.Bounds.{Reach, limits_of};
@@ -12,7 +12,18 @@ ghost use Rattle.sun_core.specs.Widths.{IsObliquity};
 use book_model::Fail;
 use book_model::sun_tables::OBLIQUITY;
 use encl_core::{Enclosure, Trail};
-use time_scales::cubic;
+
+/// The obliquity of the ecliptic, in degrees, by the cubic.
+#[tactic(auto, using(time_scales::proofs::Powers::cubes), unfolding(book_model::specs::numbers::Polynomials::cubic_of))]
+fn obliquity_at<E: Enclosure>(c: E) -> E
+    ensures encloses { Encloses1 E.shown E.BITS (cubic_of OBLIQUITY) c result }
+{
+    let square = c.square();
+    E::from_frac(OBLIQUITY.constant)
+        .add(c.mul_frac(OBLIQUITY.linear))
+        .add(square.mul_frac(OBLIQUITY.square))
+        .add(square.mul(c).mul_frac(OBLIQUITY.cube))
+}
 
 // A trail and a result, as every formula of a moment has.
 /// The obliquity of the ecliptic by the centuries from noon of 1 January 2000, in degrees (Reingold and Dershowitz,
@@ -25,5 +36,5 @@ pub fn obliquity<E: Enclosure>(c: E, trail: &mut Trail) -> Result<E, Fail>
         (cubic_of OBLIQUITY x) y) }
     ensures measured { Measured1 E.BITS E.shown (2 ^ 42) AreCenturies IsObliquity c result }
 {
-    Ok(cubic(&OBLIQUITY, c))
+    Ok(obliquity_at(c))
 }

@@ -3,6 +3,7 @@ ghost use Rattle.book_model.specs.programs.Calls.{Encloses1, Encloses2, Encloses
 ghost use Rattle.book_model.specs.programs.Widths.{IsAbout, IsUpTo, Measured1, IsSince};
 ghost use Rattle.std.specs.Prelude.{◌≡◌, ◌≤◌, ◌+◌, ◌*◌, ◌/◌, ◌^◌, ℕ, Ok, IfOk, IfErr};
 ghost use Rattle.book_model.specs.Interval.{Interval};
+ghost use Rattle.book_model.specs.numbers.Polynomials.{cubic_of, quadratic_of};
 ghost use Rattle.book_model.specs.sky.Sidereal as spec;
 ghost use Rattle.encl_core.specs.declared.greatest_widths.TheConstants.{SIDEREAL_SUN};
 ghost use Rattle.encl_core.specs.GreatestWidths.{greatest_of};
@@ -18,7 +19,7 @@ use book_model::sun_tables::{ECLIPTIC_CROSSING, ECLIPTIC_TILT, EQUINOX_ADVANCE, 
 use book_model::{Fail, Site};
 use encl_core::{Enclosure, Trail, wrap_step};
 use periodic_terms::{cos_deg, sin_deg};
-use time_scales::{centuries, cubic, quadratic};
+use time_scales::centuries;
 
 // Over recent moments, from R.D. 580,000 on, the direction keeps to one quadrant: so its arctangent
 // is narrow.
@@ -34,6 +35,40 @@ fn precession_by<E: Enclosure>(tilt: E, crossing: E, advance: E) -> E
     advance.add(crossing).sub(turned)
 }
 
+/// The tilt of the ecliptic to that of 2000 by the centuries from noon of 1 January 2000, in degrees.
+#[tactic(auto, using(time_scales::proofs::Powers::cubes), unfolding(book_model::specs::numbers::Polynomials::cubic_of))]
+fn tilt_at<E: Enclosure>(c: E) -> E
+    ensures encloses { Encloses1 E.shown E.BITS (cubic_of ECLIPTIC_TILT) c result }
+{
+    let square = c.square();
+    E::from_frac(ECLIPTIC_TILT.constant)
+        .add(c.mul_frac(ECLIPTIC_TILT.linear))
+        .add(square.mul_frac(ECLIPTIC_TILT.square))
+        .add(square.mul(c).mul_frac(ECLIPTIC_TILT.cube))
+}
+
+/// Where the ecliptic crosses that of 2000 by the centuries, in degrees.
+#[tactic(auto, unfolding(book_model::specs::numbers::Polynomials::quadratic_of))]
+fn crossing_at<E: Enclosure>(c: E) -> E
+    ensures encloses { Encloses1 E.shown E.BITS (quadratic_of ECLIPTIC_CROSSING) c result }
+{
+    E::from_frac(ECLIPTIC_CROSSING.constant)
+        .add(c.mul_frac(ECLIPTIC_CROSSING.linear))
+        .add(c.square().mul_frac(ECLIPTIC_CROSSING.square))
+}
+
+/// The advance of the equinox by the centuries, in degrees.
+#[tactic(auto, using(time_scales::proofs::Powers::cubes), unfolding(book_model::specs::numbers::Polynomials::cubic_of))]
+fn advance_at<E: Enclosure>(c: E) -> E
+    ensures encloses { Encloses1 E.shown E.BITS (cubic_of EQUINOX_ADVANCE) c result }
+{
+    let square = c.square();
+    E::from_frac(EQUINOX_ADVANCE.constant)
+        .add(c.mul_frac(EQUINOX_ADVANCE.linear))
+        .add(square.mul_frac(EQUINOX_ADVANCE.square))
+        .add(square.mul(c).mul_frac(EQUINOX_ADVANCE.cube))
+}
+
 /// Precession by the centuries from noon of 1 January 2000, in degrees, not reduced.
 #[tactic(auto, unfolding(book_model::specs::sky::Sidereal::precession_at_of))]
 fn precession_at<E: Enclosure>(c: E) -> E
@@ -41,11 +76,7 @@ fn precession_at<E: Enclosure>(c: E) -> E
     ensures measured { (v : ℕ) → E.BITS ≡ 56 → v ≤ 2 ^ 38 → AreRecentCenturies v (E.shown c)
         → IsAbout (2 ^ 39) (14 * v + 2 ^ 24) (E.shown result) }
 {
-    precession_by(
-        cubic(&ECLIPTIC_TILT, c),
-        quadratic(&ECLIPTIC_CROSSING, c),
-        cubic(&EQUINOX_ADVANCE, c),
-    )
+    precession_by(tilt_at(c), crossing_at(c), advance_at(c))
 }
 
 /// How far the equinox has moved among the stars at a moment of universal time, in degrees, not reduced (Reingold and Dershowitz,

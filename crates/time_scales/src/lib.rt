@@ -19,6 +19,6 @@ mod zone;
 
 pub use dynamical_time::{centuries, correction, dynamical, from_dynamical};
 pub use moment::{year, year_of_whole_day};
-pub use polynomial::{at_fraction, cubic, quadratic};
+pub use polynomial::at_fraction;
 pub use sidereal_time::sidereal;
 pub use zone::{in_zone, midnight, zone_at, zone_beijing, zone_on};

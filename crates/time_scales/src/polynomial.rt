@@ -8,34 +8,8 @@ ghost use Rattle.book_model.specs.numbers.Polynomials.{quadratic_of, cubic_of, p
 ghost use Rattle.encl_core.specs.Sizes.{HasSize};
 ghost use Rattle.time_scales.specs.Horner.{horner_of, horner_size, horner_width, horner_fits};
 
-use book_model::{Cubic, Frac, Quadratic};
+use book_model::Frac;
 use encl_core::Enclosure;
-
-// Inlined, here and below: tables are constants, and so their denominators are known to the
-// compiler.
-/// The quadratic polynomial with these coefficients.
-#[inline(always)]
-#[tactic(auto, unfolding(book_model::specs::numbers::Polynomials::quadratic_of))]
-pub fn quadratic<E: Enclosure>(coefficients: &Quadratic, x: E) -> E
-    ensures encloses { Encloses1 E.shown E.BITS (quadratic_of coefficients.now) x result }
-{
-    E::from_frac(coefficients.constant)
-        .add(x.mul_frac(coefficients.linear))
-        .add(x.square().mul_frac(coefficients.square))
-}
-
-/// The cubic polynomial with these coefficients.
-#[inline(always)]
-#[tactic(auto, using(crate::proofs::Powers::cubes), unfolding(book_model::specs::numbers::Polynomials::cubic_of))]
-pub fn cubic<E: Enclosure>(coefficients: &Cubic, x: E) -> E
-    ensures encloses { Encloses1 E.shown E.BITS (cubic_of coefficients.now) x result }
-{
-    let square = x.square();
-    E::from_frac(coefficients.constant)
-        .add(x.mul_frac(coefficients.linear))
-        .add(square.mul_frac(coefficients.square))
-        .add(square.mul(x).mul_frac(coefficients.cube))
-}
 
 /// The polynomial with these coefficients at a whole number, its powers taken in whole numbers. A row of ΔT has seven coefficients at most
 /// and its years are at most 256 from its origin: the sixth power is at most 2⁴⁸, and the next one, which isn't used, 2⁵⁶.

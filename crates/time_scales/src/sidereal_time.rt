@@ -1,5 +1,5 @@
 //! Sidereal time.
-ghost use Rattle.book_model.specs.programs.Calls.{Follows1};
+ghost use Rattle.book_model.specs.programs.Calls.{Encloses1, Follows1};
 ghost use Rattle.book_model.specs.programs.Widths.{IsAbout, Measured1, IsDated};
 ghost use Rattle.std.specs.Prelude.{◌≡◌, ◌^◌, IfOk};
 ghost use Rattle.book_model.specs.numbers.Bounds.{Reach, limits_of};
@@ -11,10 +11,22 @@ ghost use Rattle.encl_core.specs.declared.greatest_widths.TheConstants.{SIDEREAL
 ghost use Rattle.encl_core.specs.GreatestWidths.{greatest_of};
 
 use crate::dynamical_time::to_centuries;
-use crate::polynomial::cubic;
 use book_model::Fail;
 use book_model::time_tables::SIDEREAL_TIME;
 use encl_core::{Enclosure, Trail};
+
+/// Mean sidereal time at Greenwich by the centuries of universal time from noon of 1 January 2000, in degrees, not reduced. Written out,
+/// as each polynomial that a fact asks often: so its denominators are known to the compiler.
+#[tactic(auto, using(crate::proofs::Powers::cubes), unfolding(book_model::specs::numbers::Polynomials::cubic_of))]
+fn sidereal_at<E: Enclosure>(c: E) -> E
+    ensures encloses { Encloses1 E.shown E.BITS (cubic_of SIDEREAL_TIME) c result }
+{
+    let square = c.square();
+    E::from_frac(SIDEREAL_TIME.constant)
+        .add(c.mul_frac(SIDEREAL_TIME.linear))
+        .add(square.mul_frac(SIDEREAL_TIME.square))
+        .add(square.mul(c).mul_frac(SIDEREAL_TIME.cube))
+}
 
 /// Mean sidereal time at Greenwich at a moment of universal time, in degrees, not reduced (Reingold and Dershowitz,
 /// Calendrical Calculations, chapter 14). It makes no test and never fails.
@@ -28,5 +40,5 @@ pub fn sidereal<E: Enclosure>(t: E, trail: &mut Trail) -> Result<E, Fail>
         (λ v. IsAbout (2 ^ 61) (greatest_of SIDEREAL v))
         t result }
 {
-    Ok(cubic(&SIDEREAL_TIME, to_centuries(t)))
+    Ok(sidereal_at(to_centuries(t)))
 }

@@ -18,7 +18,7 @@ returns g c =
             sun_anomaly = s w d h;
             moon_anomaly = m w d h;
             latitude_argument = l w d h;
-            eccentricity = c.quadratic.ensures.encloses.holds w (constant (centuries_of_months c.args.number))
+            eccentricity = c.eccentricity_factor.ensures.encloses.holds w (constant (centuries_of_months c.args.number))
                 h.centuries;
           };
       measured = λ e k h.
@@ -29,8 +29,8 @@ returns g c =
             sun_anomaly = s e k h;
             moon_anomaly = m e k h;
             latitude_argument = l e k h;
-            eccentricity = eccentricity_within g.E.Enclosure.shown _ c.args.powers.centuries c.quadratic.result e
+            eccentricity = eccentricity_within g.E.Enclosure.shown _ c.args.powers.centuries c.eccentricity_factor.result e
                 h.centuries
-                (λ r x. c.quadratic.ensures.encloses.narrow r x);
+                (λ r x. c.eccentricity_factor.ensures.encloses.narrow r x);
           };
     }

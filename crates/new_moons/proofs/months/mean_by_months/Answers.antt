@@ -16,9 +16,9 @@ returns g c =
       holds = λ w d h.
           let t = centuries_of_months c.args.number in
           let a = rw v at (c.from_frac.ensures.encloses.holds w d) in
-          quartic_holds g.E.Enclosure.shown w MEAN_NEW_MOON t _ (mean_first c.args.number) c.quartic_at.result refl
-          (c.quartic_at.ensures.holds w _ (constant (power t 2)) (constant (power t 3)) (constant t) a h.square h.cube
-          h.centuries);
+          quartic_holds g.E.Enclosure.shown w MEAN_NEW_MOON t _ (mean_first c.args.number) c.add.result refl
+          (c.add.ensures.encloses.holds w _ _ (c.cubic_at.ensures.holds w _ (constant (power t 2)) (constant (power t 3)) a
+          h.square h.cube) (c.fourth_at.ensures.encloses.holds w (constant (power t 3)) (constant t) h.cube h.centuries));
       measured = λ e k h.
           let shown = g.E.Enclosure.shown in
           let a = parts_within shown _ (record {
@@ -27,9 +27,10 @@ returns g c =
           }) (2 ^ 52) c.from_frac.result e (omega arith)
           (omega (arith, ints, k.0, k.1)) (omega (arith, ints, k.0, k.1))
           (λ r. rw v at (c.from_frac.ensures.encloses.narrow r)) in
-          quartic_within shown _ (2 ^ 52) (2 ^ 53) MEAN_NEW_MOON c.from_frac.result c.quartic_at.result c.args.powers e
+          quartic_within shown _ (2 ^ 52) (2 ^ 53) MEAN_NEW_MOON c.from_frac.result c.add.result c.args.powers e
           a h mean_reach
-          (λ r. c.quartic_at.ensures.narrow r);
+          (λ r x s u t hx hs hu ht. c.add.ensures.encloses.narrow r _ _ (c.cubic_at.ensures.narrow r x s u hx hs hu)
+          (c.fourth_at.ensures.encloses.narrow r u t hu ht));
       recent = λ e k h.
           let shown = g.E.Enclosure.shown in
           let a = parts_within shown _ (record {
@@ -38,7 +39,8 @@ returns g c =
           }) (2 ^ 49) c.from_frac.result e (omega arith)
           (omega (arith, ints, k.0, k.1)) (omega (arith, ints, k.0, k.1))
           (λ r. rw v at (c.from_frac.ensures.encloses.narrow r)) in
-          quartic_within shown _ (2 ^ 49) _ MEAN_NEW_MOON c.from_frac.result c.quartic_at.result c.args.powers e a h
+          quartic_within shown _ (2 ^ 49) _ MEAN_NEW_MOON c.from_frac.result c.add.result c.args.powers e a h
           recent_reach
-          (λ r. c.quartic_at.ensures.narrow r);
+          (λ r x s u t hx hs hu ht. c.add.ensures.encloses.narrow r _ _ (c.cubic_at.ensures.narrow r x s u hx hs hu)
+          (c.fourth_at.ensures.encloses.narrow r u t hu ht));
     }

@@ -9,4 +9,4 @@ returns-clause-measured g c = λ e h.
     let t = time_within shown _ _ c.from_frac.result e h (λ r. c.from_frac.ensures.encloses.narrow r) in
     venus_within shown _ c.from_frac.result c.mul_frac.result e t
     (λ r x k. c.mul_frac.ensures.encloses.narrow r _
-    (c.sin_deg.ensures.encloses.narrow r _ (c.quadratic.ensures.encloses.narrow r x k)))
+    (c.sin_deg.ensures.encloses.narrow r _ (c.venus_angle.ensures.encloses.narrow r x k)))
