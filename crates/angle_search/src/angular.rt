@@ -39,6 +39,7 @@ pub trait Angular<E: Enclosure>: Drop {
             (Ok a)) };
 
     /// The angle by its linear model over an interval of time, or none where it isn't known there. The tests are no part of the run.
+    /// It may take from this one what still serves over the interval.
     fn over(&self, interval_of_days: E, trail: &Trail) -> Option<Self>;
 
     /// About the time in days in which the angle grows by so many degrees. Nothing rests on it but the interval over which a

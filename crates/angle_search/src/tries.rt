@@ -65,7 +65,7 @@ fn learned<E: Enclosure, F: Angular<E>>(
     let Some(interval_of_days) = stretch_by(f, x, fail) else {
         return None;
     };
-    let Some(linear_model) = f.over(interval_of_days, trail) else {
+    let Some(linear_model) = known.last_or(f).over(interval_of_days, trail) else {
         return None;
     };
     let found = tried(&linear_model, target, x, trail);

@@ -20,3 +20,4 @@ pub mod QuarterWidths
 pub mod HigherTerms
 pub mod Replays
 pub mod MoonPlaces
+pub mod Picked

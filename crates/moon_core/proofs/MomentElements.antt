@@ -5,14 +5,12 @@
 use Rattle.std.proofs.Common.{ℕ, ℤ, refl, sym, subst, Option, Some, None, Result, Ok}
 use Rattle.book_model.specs.Interval.{Interval}
 use Rattle.book_model.specs.declared.fail.Fail.{Fail}
-use Rattle.book_model.specs.declared.site.Site.{Site}
 use Rattle.book_model.specs.declared.time_tables.TheConstants.{NOON_2000}
 use Rattle.book_model.specs.numbers.Expressions.{Expression, World, add, constant, subtract, value}
 use Rattle.book_model.specs.numbers.Fractions.{fraction_of}
 use Rattle.book_model.specs.numbers.Relations.{Within}
-use Rattle.book_model.specs.programs.Leading.{Leads, Reports, passes, answers, next_turn}
-use Rattle.book_model.specs.programs.Programs.{Grid, Program, Run, after_cell, answer, answered, bind, cell_at, run}
-use Rattle.book_model.specs.programs.Programs.{voided, years, multiples}
+use Rattle.book_model.specs.programs.Leading.{Leads, next_turn}
+use Rattle.book_model.specs.programs.Programs.{Program, answer, bind, cell_at, run, years, multiples}
 use Rattle.book_model.specs.sky.Correction.{Correction, row_of_year, year_of}
 use Rattle.book_model.specs.sky.Moon.{moon_longitude_of}
 use Rattle.book_model.specs.sky.Time.{by_row, centuries_of, correction_at, correction_of_year, dynamical_of}
@@ -21,6 +19,7 @@ use Rattle.book_model.proofs.Leads.{leads_answer, leads_bind}
 use Rattle.moon_core.specs.Elements.{AreElements, HoldElements, reduced_longitude_of}
 use Rattle.moon_core.specs.declared.elements.MoonElements.{MoonElements}
 use Rattle.sun_core.specs.Daily.{in_centuries}
+use Rattle.sun_core.proofs.Again.{IsSteady, answered_again, cell_again, void_again}
 
 -- what leads by the centuries of the days of elements leads by the centuries of their moment
 pub by_elements : {E B U : Type 0} {shown : E → Interval} {w : World} {S : B → U → Type 0} {p : Program Expression}
@@ -45,50 +44,30 @@ elements_lead x y h f =
     (λ z r. leads_answer (record { days = subtract z (constant (fraction_of NOON_2000)); is = refl; hold = f z r }))
 
 -- ---- one test of a year, and the time by ΔT of that year, wherever the run stands
--- a run reports an answer alike from each count of tests on, which it leaves as it is
-record IsSteady {A T : Type 0} (R : A → T → Type 0) (r : Run A) (y : T) : Type 0 where
-  steady : (b a k : ℕ) → Reports R r b a (Ok y) → Reports R r k k (Ok y)
-
-answer_steady : {A T : Type 0} {R : A → T → Type 0} (v : A) (y : T) (b a k : ℕ) → Reports R (answered v) b a (Ok y)
-    → Reports R (answered v) k k (Ok y)
-answer_steady v y b a k (answers h) = answers h
-
-void_answers : {A T : Type 0} {R : A → T → Type 0} (s : Site) (y : T) (b a : ℕ) → Reports R (voided s) b a (Ok y) → ⊥
-void_answers s y b a h = elim h [ ]
-
-cell_again : {A T : Type 0} {R : A → T → Type 0} (s : Site) (g : Grid) (i : Interval) (o : Option ℤ) (next : ℤ → Run A)
-    (y : T) {b a : ℕ} (k : ℕ)
-    → ((q : ℤ) → IsSteady R (next q) y) → Reports R (after_cell s g i o next) b a (Ok y)
-    → Reports R (after_cell s g i o next) k (next_turn k) (Ok y)
-unfolding after_cell
-cell_again s g i None next y k f h = elim h [ ]
-cell_again s g i (Some q) next y k f (passes h) = passes ((f q).steady _ _ (next_turn k) h)
-
-time_steady : {T : Type 0} {R : Expression → T → Type 0} (w : World) (x : Expression) (q : ℤ) (o : Option Correction)
+time_again : {T : Type 0} {R : Expression → T → Type 0} (w : World) (x : Expression) (q : ℤ) (o : Option Correction)
     (y : T)
-    → IsSteady R (run w (bind (bind (by_row q o) (λ c. answer (add x c))) (λ d. answer (centuries_from d)))) y
+    → IsSteady R (λ k. k) (run w (bind (bind (by_row q o) (λ c. answer (add x c))) (λ d. answer (centuries_from d)))) y
 unfolding bind run
-time_steady w x q None y = record { steady = λ b a k h. absurd (void_answers _ y b a h) }
-time_steady w x q (Some row) y = record { steady = λ b a k h. answer_steady _ y b a k h }
+time_again w x q None y = void_again (λ k. k) _ y
+time_again w x q (Some row) y = answered_again _ y
 
 pub centuries_again : {T : Type 0} {w : World} {R : Expression → T → Type 0} (x : Expression) {b a : ℕ} {y : T}
     → Leads w R (centuries_of x) b a (Ok y) → (k : ℕ) → Leads w R (centuries_of x) k (next_turn k) (Ok y)
 unfolding centuries_of dynamical_of correction_at correction_of_year year_of bind run
 centuries_again {w = w} x {y = y} h k = record {
   reports =
-      cell_again _ years (value w x) (cell_at years (value w x)) _ y k (λ q. time_steady w x q (row_of_year q) y)
-      h.reports;
+      (cell_again (λ k. k) _ years (value w x) (cell_at years (value w x)) _ y
+      (λ q. time_again w x q (row_of_year q) y)).again _ _ k h.reports;
 }
 
 -- ---- one test of the turn, and the longitude, wherever the run stands
-pub longitude_steady : {T : Type 0} {w : World} {R : Expression → T → Type 0} (t : Expression) {b a : ℕ} {y : T}
+pub longitude_again : {T : Type 0} {w : World} {R : Expression → T → Type 0} (t : Expression) {b a : ℕ} {y : T}
     → Leads w R (reduced_longitude_of t) b a (Ok y) → (k : ℕ) → Leads w R (reduced_longitude_of t) k (next_turn k)
     (Ok y)
 unfolding reduced_longitude_of run
-longitude_steady {w = w} t {y = y} h k = record {
+longitude_again {w = w} t {y = y} h k = record {
   reports =
-      cell_again _ (multiples 360) (value w (moon_longitude_of t))
-      (cell_at (multiples 360) (value w (moon_longitude_of t))) _ y k
-      (λ q. record { steady = λ b a k h. answer_steady _ y b a k h })
-      h.reports;
+      (cell_again (λ k. k) _ (multiples 360) (value w (moon_longitude_of t))
+      (cell_at (multiples 360) (value w (moon_longitude_of t))) _ y
+      (λ q. answered_again _ y)).again _ _ k h.reports;
 }

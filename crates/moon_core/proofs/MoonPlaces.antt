@@ -7,7 +7,7 @@ use Rattle.book_model.specs.numbers.Expressions.{Expression, World}
 use Rattle.book_model.specs.programs.Leading.{Leads, Reports, passes, answers, stops, stops_early, voids, next_turn}
 use Rattle.book_model.specs.programs.Programs.{Program, Run}
 use Rattle.moon_core.specs.Elements.{reduced_longitude_of}
-use Rattle.moon_core.proofs.MomentElements.{longitude_steady}
+use Rattle.moon_core.proofs.MomentElements.{longitude_again}
 
 -- ---- another result of the same tests
 reports_as : {A T U : Type 0} {R : A → T → Type 0} {S : A → U → Type 0} {r : Run A} {b a : ℕ} {y : T} {z : U}
@@ -40,5 +40,5 @@ pub longitudes_again : {T : Type 0} (H : World → Expression → Type 0) (R : W
     → ((w : World) (x : Expression) → H w x → Leads w (R w) (reduced_longitude_of (t x)) b a r)
     → IfOk r (λ l. (w : World) (x : Expression) → H w x → (k : ℕ)
     → Leads w (R w) (reduced_longitude_of (t x)) k (next_turn k) (Ok l))
-longitudes_again H R t (Ok l) h = λ w x e k. longitude_steady (t x) (h w x e) k
+longitudes_again H R t (Ok l) h = λ w x e k. longitude_again (t x) (h w x e) k
 longitudes_again H R t (Err f) h = tt

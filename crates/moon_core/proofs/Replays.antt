@@ -45,3 +45,11 @@ pub leads_anew : {A T : Type 0} {w : World} {R : A → T → Type 0} {p : Progra
     → Leads w R p b a (Ok y) → (c : ℕ)
     → Leads w R p c (turn_after (a - b) c) (Ok y)
 leads_anew k h c = record { reports = (replayed k h.reports).anew c }
+
+-- a run whose count began at 0, and which made fewer tests than are counted
+pub leads_counted : {A T : Type 0} {w : World} {R : A → T → Type 0} {p : Program A} {b a n : ℕ} {y : T} → b ≡ 0
+    → n ≡ a → n < 2 ^ 32 - 1 → Leads w R p b a (Ok y) → (c : ℕ)
+    → Leads w R p c (turn_after n c) (Ok y)
+leads_counted {b = b} {a = a} {n = n} e f k h c =
+    let z : a - b ≡ n = omega (arith, e, f) in
+    rw z at (leads_anew (omega (arith, f, k)) h c)

@@ -24,6 +24,7 @@ mod longitude;
 mod numbers;
 mod phase_linear_models;
 mod phases;
+mod picked_longitudes;
 mod quarters;
 mod walks;
 
@@ -38,6 +39,6 @@ pub use phases::{PlacedAngle, phase, placed_phase};
 pub use quarters::{phase_before, phase_before_by, phase_day};
 pub use sun_core::{
     SunLinearModel, estimate, noon, paris_midnight, sidereal_sun, sidereal_sun_by, sun, sun_by,
-    sun_from_by,
+    sun_from_again, sun_from_by,
 };
 pub use walks::{moon_before, moon_before_by, moon_from, moon_from_by};

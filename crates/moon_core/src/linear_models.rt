@@ -8,8 +8,9 @@ ghost use Rattle.book_model.specs.numbers.Expressions.{Expression, World};
 ghost use Rattle.book_model.specs.numbers.Relations.{Within};
 ghost use Rattle.book_model.specs.programs.Calls.{Follows1, Holds1};
 ghost use Rattle.book_model.specs.sky.Sun.{nutation_of};
-ghost use Rattle.book_model.specs.sky.Moon.{lunar_angles_of, longitude_terms_of, inequalities_of, moon_longitude_of, moon_of};
+ghost use Rattle.book_model.specs.sky.Moon.{lunar_angles_of, longitude_terms_of, inequalities_of, moon_longitude_of};
 ghost use Rattle.periodic_terms.specs.MeanAngles.{HoldAngles};
+ghost use Rattle.moon_core.specs.Elements.{reduced_longitude_of};
 ghost use Rattle.moon_core.specs.HigherTerms.{HoldHigherTerms};
 ghost use Rattle.moon_core.specs.LinearModels.{greatest_terms_of, other_terms_of};
 ghost use Rattle.sun_core.specs.Daily.{in_centuries};
@@ -19,13 +20,12 @@ use crate::longitude::flattening;
 use book_model::moon_tables::{
     ELONGATION, JUPITER_TERM, MILLIONTH, MOON_ANOMALY, MOON_LONGITUDE, VENUS_TERM,
 };
-use book_model::time_tables::{DAY_IN_CENTURIES, NOON_2000};
+use book_model::time_tables::DAY_IN_CENTURIES;
 use book_model::{FIRST_DAY, Fail, LAST_DAY, Site};
 use encl_core::{Enclosure, Trail, lies_within, wrap_step};
 use periodic_terms::{MeanAngles, greatest_terms, other_terms};
 use std::marker::Model;
 use sun_core::{nutation, sine_periodic_term};
-use time_scales::dynamical;
 
 /// 1 January 2000 (R.D.), from whose noon days are counted.
 const DAY_OF_2000: i64 = 730_120;
@@ -104,6 +104,23 @@ impl<E: Enclosure> MoonLinearModel<E> {
         }
     }
 
+    // Not `Clone`, which would ask for memory: these are numbers.
+    /// The same linear model once more.
+    pub(crate) fn copied(&self) -> Self
+        ensures days { result ≡ self.now }
+    {
+        MoonLinearModel {
+            days: self.days,
+            higher: self.higher,
+            angles: self.angles,
+            terms: self.terms,
+            venus: self.venus,
+            jupiter: self.jupiter,
+            flattening: self.flattening,
+            nutation: self.nutation,
+        }
+    }
+
     /// The linear model over days, by the nutation there.
     pub(crate) fn of(days: E, nutation: E) -> Self
         requires nutation { Holds1 E.shown (λ x. nutation_of (in_centuries x)) days nutation }
@@ -172,19 +189,18 @@ impl<E: Enclosure> MoonLinearModel<E> {
     }
 }
 
-/// The apparent longitude of the moon at a moment of universal time by a linear model, in degrees from 0 up to 360, as wide as it
-/// may be over the interval of the linear model. Where it answers it has made the tests of `moon`. A failure says nothing of `moon`:
-/// it is void at `moon-wrap` where the moment isn't one of the linear model.
-pub(crate) fn moon_by<E: Enclosure>(
+/// The apparent longitude of the moon by a linear model, in degrees from 0 up to 360, by the days of dynamical time counted from noon of
+/// 1 January 2000: what is left of `moon` after the year's test, as wide as it may be over the interval of the linear model. Where it
+/// answers it has made the other test. A failure says nothing of `moon`: it is void at `moon-wrap` where the days aren't of the linear
+/// model.
+pub(crate) fn moon_on<E: Enclosure>(
     linear_model: &MoonLinearModel<E>,
-    t: E,
+    days: E,
     trail: &mut Trail,
 ) -> Result<E, Fail>
-    ensures leads { IfOk result (λ m. Follows1 E.shown moon_of t trail.old.count trail.new.count
-        (Ok m)) }
+    ensures leads { IfOk result (λ m. Follows1 E.shown (λ x. reduced_longitude_of (in_centuries x)) days
+        trail.old.count trail.new.count (Ok m)) }
 {
-    let moment = dynamical(t, trail)?;
-    let days = moment.sub(E::from_frac(NOON_2000));
     if !linear_model.covers(days) {
         return Err(Fail::Void(Site::MoonWrap));
     }

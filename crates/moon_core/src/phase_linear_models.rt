@@ -4,26 +4,58 @@ ghost use Rattle.book_model.specs.numbers.Ranges.{IsInTable};
 ghost use Rattle.book_model.specs.programs.Calls.{Follows1};
 ghost use Rattle.book_model.specs.sky.Phases.{elongation_of, phase_of};
 
-use crate::linear_models::{MoonLinearModel, moon_by};
-use crate::phases::{corrected, within_turn};
+use crate::linear_models::{MoonLinearModel, moon_on};
+use crate::phases::within_turn;
+use crate::picked_longitudes::{PickedLongitudes, corrected_by, picked_about};
 use book_model::Fail;
+use book_model::time_tables::NOON_2000;
 use encl_core::{Enclosure, Trail};
-use sun_core::{SunLinearModel, sun_by};
+use sun_core::{SunLinearModel, sun_on};
+use time_scales::dynamical;
 
-/// The linear models of the moon and of the sun over an interval of days.
+/// The linear models of the moon and of the sun over an interval of days, and what is known of which phase is picked about them.
 #[derive(Drop)]
 pub struct PhaseLinearModel<E: Enclosure> {
     moon: MoonLinearModel<E>,
     sun: SunLinearModel<E>,
+    picked: Option<PickedLongitudes<E>>,
 }
 
 impl<E: Enclosure> PhaseLinearModel<E> {
-    /// The linear models over days, counted from noon of 1 January 2000 in dynamical time.
-    pub(crate) fn of(days: E) -> Self {
+    /// What is known of which phase is picked, once more.
+    fn known_pick(&self) -> Option<PickedLongitudes<E>> {
+        match &self.picked {
+            Some(picked) => Some(picked.copied()),
+            None => None,
+        }
+    }
+
+    // The sun's terms but the greatest move hundreds of times more slowly than the moon's.
+    /// The linear models over days, counted from noon of 1 January 2000 in dynamical time: the sun's once more where it serves.
+    pub(crate) fn over_days(&self, days: E) -> Self {
+        let picked = self.known_pick();
+        if self.sun.serves(days) {
+            return PhaseLinearModel {
+                moon: MoonLinearModel::<E>::of(days, self.sun.nutation()),
+                sun: self.sun.copied(),
+                picked,
+            };
+        }
         let sun = SunLinearModel::<E>::of(days);
         PhaseLinearModel {
             moon: MoonLinearModel::<E>::of(days, sun.nutation()),
             sun,
+            picked,
+        }
+    }
+
+    /// The same linear models, with what is found out about which phase is picked over an interval of moments by longitudes about
+    /// a phase.
+    pub(crate) fn picking(&self, phase: E, moments: E, trail: &Trail) -> Self {
+        PhaseLinearModel {
+            moon: self.moon.copied(),
+            sun: self.sun.copied(),
+            picked: picked_about(phase, moments, trail),
         }
     }
 
@@ -33,6 +65,7 @@ impl<E: Enclosure> PhaseLinearModel<E> {
         PhaseLinearModel {
             moon: MoonLinearModel::<E>::usual(),
             sun: SunLinearModel::<E>::always(),
+            picked: None,
         }
     }
 
@@ -42,6 +75,7 @@ impl<E: Enclosure> PhaseLinearModel<E> {
     }
 }
 
+// The definition tests the year of the moment twice, once for each longitude: the second time the test is counted alone.
 /// The longitude of the moon less that of the sun, from 0 up to 360 degrees, by their linear models.
 fn elongation_by<E: Enclosure>(
     linear_model: &PhaseLinearModel<E>,
@@ -52,8 +86,11 @@ fn elongation_by<E: Enclosure>(
         trail.new.count (Ok e)) }
     ensures in_table { IfOk result (λ e. IsInTable (E.shown t)) }
 {
-    let there = moon_by(&linear_model.moon, t, trail)?;
-    let longitude = sun_by(&linear_model.sun, t, trail)?;
+    let moment = dynamical(t, trail)?;
+    let days = moment.sub(E::from_frac(NOON_2000));
+    let there = moon_on(&linear_model.moon, days, trail)?;
+    trail.step();
+    let longitude = sun_on(&linear_model.sun, days, trail)?;
     within_turn(there.sub(longitude), trail)
 }
 
@@ -69,5 +106,5 @@ pub(crate) fn phase_by<E: Enclosure>(
         (Ok p)) }
 {
     let by_longitudes = elongation_by(linear_model, t, trail)?;
-    corrected(by_longitudes, t, trail)
+    corrected_by(&linear_model.picked, by_longitudes, t, trail)
 }

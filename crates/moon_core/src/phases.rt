@@ -1,10 +1,11 @@
 //! The moon's phase, and the number of the new moon about a moment, roughly.
-ghost use Rattle.book_model.specs.programs.Calls.{Decides1, Encloses1, Follows1, Follows2, Holds2};
-ghost use Rattle.book_model.specs.programs.Widths.{IsAbout, IsMoment, IsSmall, IsUpTo, IsWithin, Measured1, Measured2, Measures, Answers1, Answers2, Closes1};
+ghost use Rattle.book_model.specs.programs.Calls.{Decides1, Decides2, Encloses1, Follows1, Follows2, Holds2};
+ghost use Rattle.book_model.specs.programs.Widths.{IsAbout, IsClose, IsMoment, IsSmall, IsUpTo, IsWithin, Measured1, Measured2, Measures, Answers1, Answers2, Closes1};
 ghost use Rattle.book_model.specs.programs.Leading.{Leads};
 ghost use Rattle.book_model.specs.numbers.Expressions.{Expression, World};
 ghost use Rattle.book_model.specs.numbers.Relations.{Within};
 ghost use Rattle.moon_core.specs.MoonPlaces.{HasAngle, IsMeasuredPlace, IsPlaceOf};
+ghost use Rattle.moon_core.specs.PickedLongitudes.{are_apart_of};
 ghost use Rattle.std.specs.Prelude.{◌≡◌, ℕ, ◌≤◌, ◌+◌, ◌*◌, ◌/◌, ◌^◌, ℤ, pos, negsuc, ◌≤ℤ◌, IfOk, IfErr};
 ghost use Rattle.book_model.specs.Interval.{Interval};
 ghost use Rattle.book_model.specs.declared.new_moon_tables.TheConstants.{LAST_TABLE_MOON as last_moon};
@@ -90,7 +91,7 @@ pub(crate) fn nearest_moon<E: Enclosure>(months: E, trail: &mut Trail) -> Result
 /// The number of the new moon about a moment of the years of which ΔT is known, by mean months from the first: two
 /// tests at most (`rough_few`).
 #[tactic(auto, using(book_model::proofs::Leads::leading), unfolding(book_model::specs::sky::Phases::rough_number_of))]
-fn rough_number<E: Enclosure>(t: E, trail: &mut Trail) -> Result<i64, Fail>
+pub(crate) fn rough_number<E: Enclosure>(t: E, trail: &mut Trail) -> Result<i64, Fail>
     requires in_table { IsInTable (E.shown t) }
     ensures leads { Decides1 E.shown spec.rough_number_of t trail.old.count trail.new.count result }
     ensures low { IfOk result (λ n. negsuc 39999 ≤ℤ n) }
@@ -115,7 +116,7 @@ fn rest_of_month<E: Enclosure>(months: E, trail: &mut Trail) -> Result<E, Fail>
 
 /// The phase by the time since the new moon of a number, from 0 up to 360 degrees: two tests at most (`by_months_few`).
 #[tactic(auto, using(book_model::proofs::Leads::leading), unfolding(book_model::specs::sky::Phases::phase_by_months_of))]
-fn phase_by_months<E: Enclosure>(n: i64, t: E, trail: &mut Trail) -> Result<E, Fail>
+pub(crate) fn phase_by_months<E: Enclosure>(n: i64, t: E, trail: &mut Trail) -> Result<E, Fail>
     requires number { IsSmall n }
     ensures leads { Follows1 E.shown (spec.phase_by_months_of n) t trail.old.count trail.new.count
         result }
@@ -144,6 +145,23 @@ fn phase_of_choice<E: Enclosure>(apart: bool, by_longitudes: E, by_time: E) -> E
     if apart { by_time } else { by_longitudes }
 }
 
+/// Whether two phases are more than 180 degrees apart: one test.
+#[tactic(auto, using(book_model::proofs::Leads::leading), unfolding(crate::specs::PickedLongitudes::are_apart_of))]
+pub(crate) fn is_apart<E: Enclosure>(
+    by_longitudes: E,
+    by_time: E,
+    trail: &mut Trail,
+) -> Result<bool, Fail>
+    ensures leads { Decides2 E.shown are_apart_of by_longitudes by_time trail.old.count
+        trail.new.count result }
+    ensures close { (v : ℕ) → E.BITS ≡ 56 → v ≤ 3 * 2 ^ 37
+        → IsUpTo 360 (22 * v + 17 * 2 ^ 32) (E.shown by_longitudes)
+        → IsUpTo 360 (13 * v + 2 ^ 35) (E.shown by_time) → IfErr result IsClose }
+{
+    let apart = size(by_longitudes.sub(by_time));
+    less_step(E::from_int(HALF_TURN), apart, Site::PhasePick, trail)
+}
+
 /// The phase by longitudes, or the one by the time where they are more than 180 degrees apart: one test.
 #[tactic(auto, using(book_model::proofs::Leads::leading), unfolding(book_model::specs::sky::Phases::test_which_phase_of))]
 fn test_which_phase<E: Enclosure>(
@@ -163,9 +181,8 @@ fn test_which_phase<E: Enclosure>(
         by_time
         result }
 {
-    let apart = size(by_longitudes.sub(by_time));
-    let is_apart = less_step(E::from_int(HALF_TURN), apart, Site::PhasePick, trail)?;
-    Ok(phase_of_choice(is_apart, by_longitudes, by_time))
+    let apart = is_apart(by_longitudes, by_time, trail)?;
+    Ok(phase_of_choice(apart, by_longitudes, by_time))
 }
 
 // Apart from the longitudes, so that the first three tests, at the year of the moment itself twice,

@@ -39,7 +39,7 @@ impl<E: Enclosure> Angular<E> for PhaseLinearModel<E> {
 
     fn over(&self, interval_of_days: E, trail: &Trail) -> Option<Self> {
         let days = days_over(interval_of_days, trail)?;
-        Some(PhaseLinearModel::<E>::of(days))
+        Some(self.over_days(days))
     }
 
     fn time_of(&self, degrees: E) -> E {
@@ -96,13 +96,10 @@ fn phase_about<E: Enclosure>(
         → Measures (λ x. IsMoment (v + 2 ^ 24) (E.shown x)) result }
 {
     let days = E::from_int(PHASE_DAYS_ABOUT);
-    invert_angular::<E, PhaseLinearModel<E>>(
-        linear_model,
-        phase,
-        about.sub(days),
-        t.min(about.add(days)),
-        trail,
-    )
+    let low = about.sub(days);
+    let high = t.min(about.add(days));
+    let picking = linear_model.picking(phase, low.hull(high), trail);
+    invert_angular::<E, PhaseLinearModel<E>>(&picking, phase, low, high, trail)
 }
 
 /// `phase_before`, where the linear models of the moon and the sun are known, over the usual days or over those about the moment.

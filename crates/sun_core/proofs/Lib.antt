@@ -11,5 +11,6 @@ pub mod Measured
 pub mod PassageWidths
 pub mod StarWidths
 pub mod Nested
+pub mod Again
 pub mod EarlyTests
 pub mod Worlds

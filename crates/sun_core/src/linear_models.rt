@@ -10,6 +10,7 @@ ghost use Rattle.book_model.specs.numbers.Ranges.{IsInTable};
 ghost use Rattle.book_model.specs.programs.Calls.{Follows1, Holds1};
 ghost use Rattle.book_model.specs.sky.Sun.{longitude_of, nutation_of, sun_of};
 ghost use Rattle.sun_core.specs.Daily.{in_centuries};
+ghost use Rattle.sun_core.specs.Longitudes.{reduced_sun_of};
 ghost use Rattle.sun_core.specs.Steps.{periodic_of};
 
 use crate::longitude::{aberration, mean_longitude, nutation};
@@ -33,6 +34,23 @@ pub fn days_over<E: Enclosure>(interval_of_days: E, trail: &Trail) -> Option<E> 
     match dynamical(interval_of_days, &mut own) {
         Ok(moment) => Some(moment.sub(E::from_frac(NOON_2000))),
         Err(_) => None,
+    }
+}
+
+/// Of how many parts of an interval's length another one's is counted.
+const PARTS_OF_LENGTH: i128 = 32;
+
+/// Whether an interval is at most 32 times as long as another.
+fn is_as_short<E: Enclosure>(interval: E, other: E) -> bool {
+    match (interval.span(), other.span()) {
+        (Some(long), Some(short)) => match (
+            long.hi.checked_sub(long.lo),
+            short.hi.checked_sub(short.lo),
+        ) {
+            (Some(length), Some(least)) => length / PARTS_OF_LENGTH <= least,
+            _ => false,
+        },
+        _ => false,
     }
 }
 
@@ -79,6 +97,19 @@ impl<E: Enclosure> SunLinearModel<E> {
         SunLinearModel::<E>::of(E::whole())
     }
 
+    // Not `Clone`, which would ask for memory: these are numbers.
+    /// The same linear model once more.
+    pub fn copied(&self) -> Self
+        ensures days { result ≡ self.now }
+    {
+        SunLinearModel {
+            days: self.days,
+            other_terms: self.other_terms,
+            aberration: self.aberration,
+            nutation: self.nutation,
+        }
+    }
+
     /// The nutation in longitude over the days of the linear model, in degrees.
     pub fn nutation(&self) -> E
         ensures holds { Holds1 E.shown (λ x. nutation_of (in_centuries x)) self.now result }
@@ -91,6 +122,14 @@ impl<E: Enclosure> SunLinearModel<E> {
         ensures there { IsTrue result → E.shown days ⊆ E.shown self.now }
     {
         lies_within(days, self.days)
+    }
+
+    /// Whether the linear model serves over such days as well as one that is taken over them alone, for what moves as fast as the
+    /// moon: it holds there, and is no more than 32 times as long.
+    pub fn serves(&self, days: E) -> bool
+        ensures there { IsTrue result → E.shown days ⊆ E.shown self.now }
+    {
+        self.covers(days) && is_as_short(self.days, days)
     }
 
     /// What the sun is ahead of its mean longitude by days of the linear model: the greatest periodic terms at these days, and the
@@ -117,6 +156,23 @@ impl<E: Enclosure> SunLinearModel<E> {
     }
 }
 
+/// The apparent longitude of the sun by a linear model, in degrees from 0 up to 360, by the days of dynamical time counted from noon of
+/// 1 January 2000: what is left of `sun` after the year's test. Where it answers it has made the other test. A failure says nothing
+/// of `sun`: it is void at `sun-wrap` where the days aren't of the linear model.
+pub fn sun_on<E: Enclosure>(
+    linear_model: &SunLinearModel<E>,
+    days: E,
+    trail: &mut Trail,
+) -> Result<E, Fail>
+    ensures leads { IfOk result (λ s. Follows1 E.shown (λ x. reduced_sun_of (in_centuries x)) days
+        trail.old.count trail.new.count (Ok s)) }
+{
+    if !linear_model.covers(days) {
+        return Err(Fail::Void(Site::SunWrap));
+    }
+    wrap_step(linear_model.longitude(days), 360, Site::SunWrap, trail)
+}
+
 /// The apparent longitude of the sun at a moment of universal time by a linear model, in degrees from 0 up to 360, as wide as it
 /// may be over the interval of the linear model. Where it answers it has made the tests of `sun`. A failure says nothing of `sun`:
 /// it is void at `sun-wrap` where the moment isn't one of the linear model.
@@ -130,9 +186,5 @@ pub fn sun_by<E: Enclosure>(
     ensures in_table { IfOk result (λ s. IsInTable (E.shown t)) }
 {
     let moment = dynamical(t, trail)?;
-    let days = moment.sub(E::from_frac(NOON_2000));
-    if !linear_model.covers(days) {
-        return Err(Fail::Void(Site::SunWrap));
-    }
-    wrap_step(linear_model.longitude(days), 360, Site::SunWrap, trail)
+    sun_on(linear_model, moment.sub(E::from_frac(NOON_2000)), trail)
 }

@@ -10,6 +10,7 @@ ghost use Rattle.encl_core.specs.declared.greatest_widths.TheConstants.{SUN};
 ghost use Rattle.encl_core.specs.GreatestWidths.{greatest_of};
 ghost use Rattle.time_scales.specs.Steps.{IsYearUndecidedFor};
 ghost use Rattle.sun_core.specs.Daily.{in_centuries};
+ghost use Rattle.sun_core.specs.Longitudes.{IsLongitudeOf};
 ghost use Rattle.sun_core.specs.Steps.{mean_longitude_of, periodic_of, computed_aberration_of, computed_mean_longitude_of};
 
 use crate::daily::times_rate;
@@ -99,6 +100,8 @@ pub fn sun<E: Enclosure>(t: E, trail: &mut Trail) -> Result<E, Fail>
         (λ v. IsUpTo 360 (greatest_of SUN v)) t
         result }
     ensures open { IfErr result (IsYearUndecidedFor (E.shown t)) }
+    ensures again { IfOk result (λ s. (w : World) (x : Expression) → Within E.shown w x t
+        → IsLongitudeOf E.shown w x s) }
 {
     let moment = dynamical(t, trail)?;
     let days = moment.sub(E::from_frac(NOON_2000));

@@ -2,10 +2,14 @@
 ghost use Rattle.std.specs.Prelude.{◌≡◌, ◌≤◌, ◌+◌, ◌*◌, ◌^◌, ℕ, IfOk, IfErr};
 ghost use Rattle.book_model.specs.programs.Calls.{Encloses2, Follows2, Follows3};
 ghost use Rattle.book_model.specs.programs.Widths.{IsMoment, IsUpTo, Measured2, Measures};
+ghost use Rattle.book_model.specs.numbers.Expressions.{Expression, World};
 ghost use Rattle.book_model.specs.numbers.Ranges.{IsInTable};
+ghost use Rattle.book_model.specs.numbers.Relations.{Within};
+ghost use Rattle.book_model.specs.programs.Leading.{Leads};
 ghost use Rattle.book_model.specs.sky.Sun as spec;
 ghost use Rattle.encl_core.specs.declared.greatest_widths.TheConstants.{SUN};
 ghost use Rattle.encl_core.specs.GreatestWidths.{greatest_of};
+ghost use Rattle.sun_core.specs.Longitudes.{IsLongitudeOf};
 ghost use Rattle.sun_core.specs.Widths.{IsNearMoment};
 ghost use Rattle.time_scales.specs.Steps.{IsEarlyYearFor};
 
@@ -59,6 +63,21 @@ fn degrees_short<E: Enclosure>(longitude: E, t: E, trail: &mut Trail) -> Result<
     reduced(longitude.sub(there), trail)
 }
 
+/// The same by the longitude of the sun at the moment, where that is known: its two tests count and aren't made anew.
+#[tactic(auto, using(book_model::proofs::Leads::leading), unfolding(book_model::specs::sky::Sun::sun_short_of))]
+fn degrees_short_again<E: Enclosure>(longitude: E, sun: E, trail: &mut Trail) -> Result<E, Fail>
+    ensures leads { (w : World) (y x : Expression) → Within E.shown w y longitude
+        → IsLongitudeOf E.shown w x sun
+        → Leads w (Within E.shown w) (spec.sun_short_of y x) trail.old.count trail.new.count result }
+    ensures measured { (v : ℕ) → E.BITS ≡ 56 → v ≤ 2 ^ 43 → IsMoment 0 (E.shown longitude)
+        → IsUpTo 360 v (E.shown sun)
+        → Measures (λ d. IsUpTo 360 v (E.shown d)) result }
+{
+    trail.step();
+    trail.step();
+    reduced(longitude.sub(sun), trail)
+}
+
 /// A moment and the time in which the mean sun moves on by an angle.
 #[tactic(auto, unfolding(book_model::specs::sky::Sun::forward_by))]
 fn moved_on<E: Enclosure>(angle: E, t: E) -> E
@@ -108,6 +127,27 @@ pub fn sun_from_by<E: Enclosure>(
     ensures early { trail.old.count ≡ 0 → IfErr result (IsEarlyYearFor (E.shown t)) }
 {
     let short = degrees_short(l, t, trail)?;
+    passage_about(linear_model, l, t, moved_on(short, t), trail)
+}
+
+/// `sun_from_by` by the longitude of the sun at the moment, where that is known: its two tests count and aren't made anew.
+#[tactic(auto, using(book_model::proofs::Leads::leading), unfolding(book_model::specs::sky::Sun::sun_from_of))]
+pub fn sun_from_again<E: Enclosure>(
+    linear_model: &SunLinearModel<E>,
+    l: E,
+    t: E,
+    there: E,
+    trail: &mut Trail,
+) -> Result<E, Fail>
+    ensures leads { (w : World) (y x : Expression) → Within E.shown w y l → Within E.shown w x t
+        → IsLongitudeOf E.shown w x there
+        → Leads w (Within E.shown w) (spec.sun_from_of y x) trail.old.count trail.new.count result }
+    ensures measured { (v : ℕ) → E.BITS ≡ 56 → v ≤ 2 ^ 34 → IsMoment 0 (E.shown l)
+        → IsMoment v (E.shown t) → IsInTable (E.shown t)
+        → IsUpTo 360 (greatest_of SUN v) (E.shown there)
+        → Measures (λ x. IsMoment (4 * v + 2 ^ 33) (E.shown x)) result }
+{
+    let short = degrees_short_again(l, there, trail)?;
     passage_about(linear_model, l, t, moved_on(short, t), trail)
 }
 

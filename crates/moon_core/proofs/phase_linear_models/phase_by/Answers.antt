@@ -7,8 +7,8 @@ pub returns : goal.returns
 unfolding phase_of
 returns g c = record {
   leads =
-      answer_follows g.E.Enclosure.shown phase_of c.args.t _ _ c.corrected.result
+      answer_follows g.E.Enclosure.shown phase_of c.args.t _ _ c.corrected_by.result
       (λ w x h.
       let l = c.in_ok-by_longitudes.ensures.leads w x h in
-      leads_on _ l (c.corrected.ensures.leads w x _ h (leaf_within l)));
+      leads_on _ l (c.corrected_by.ensures.leads w x _ h (leaf_within l)));
 }

@@ -10,6 +10,7 @@ use Rattle.sun_core.proofs.Elapsed.{by_dynamical}
 use Rattle.std.proofs.Common.{arith, ◌+◌, ◌*◌, ◌^◌}
 use Rattle.book_model.specs.numbers.Bounds.{Reach}
 use Rattle.encl_core.proofs.Measuring.{measured_argument}
+use Rattle.sun_core.proofs.Again.{longitudes_again}
 use Rattle.sun_core.proofs.Measured.{tabled, days_of, days_within, centuries_within, turned_within}
 use Rattle.sun_core.proofs.longitude.sun.Goals as goal
 
@@ -38,3 +39,6 @@ returns-clause-measured g c = λ v e b h.
     (centuries_within shown _ v e b c.mul_frac-c.result (c.mul_frac-c.ensures.encloses.narrow r days_of days)) in
     c.wrap_step.ensures.measured (2 * v + 2 ^ 32) e (omega (arith, b))
     (turned_within shown _ v e b c.longitude.result y)
+
+pub returns-clause-again : goal.returns-clause-again
+returns-clause-again g c = longitudes_again g.E.Enclosure.shown c.args.t c.wrap_step.result (returns-clause-leads g c)
