@@ -1,61 +1,70 @@
 //! The phase of the moon over an interval of time, by the linear models of the moon and the sun.
 ghost use Rattle.std.specs.Prelude.{◌≡◌, Ok, IfOk};
+ghost use Rattle.book_model.specs.Interval.{◌⊆◌};
 ghost use Rattle.book_model.specs.numbers.Ranges.{IsInTable};
 ghost use Rattle.book_model.specs.programs.Calls.{Follows1};
 ghost use Rattle.book_model.specs.sky.Phases.{elongation_of, phase_of};
 
 use crate::linear_models::{MoonLinearModel, moon_on};
 use crate::phases::within_turn;
-use crate::picked_longitudes::{PickedLongitudes, corrected_by, picked_about};
+use crate::picked_longitudes::{PickedLongitudes, corrected_by, longitudes_about, picked_by};
 use book_model::Fail;
 use book_model::time_tables::NOON_2000;
 use encl_core::{Enclosure, Trail};
-use sun_core::{SunLinearModel, sun_on};
+use sun_core::{SunLinearModel, days_over, sun_on};
 use time_scales::dynamical;
 
-/// The linear models of the moon and of the sun over an interval of days, and what is known of which phase is picked about them.
+/// The linear models of the moon and of the sun over an interval of days, the phases by longitudes that a bisection meets, if it is one
+/// of its, and what is known of which phase is picked.
 #[derive(Drop)]
 pub struct PhaseLinearModel<E: Enclosure> {
     moon: MoonLinearModel<E>,
     sun: SunLinearModel<E>,
+    longitudes: Option<E>,
     picked: Option<PickedLongitudes<E>>,
 }
 
 impl<E: Enclosure> PhaseLinearModel<E> {
-    /// What is known of which phase is picked, once more.
-    fn known_pick(&self) -> Option<PickedLongitudes<E>> {
+    // A full moon is where the number of the new moon about it changes, so that this is known of no interval about that moment.
+    /// Which phase is picked over an interval of moments: what is known of a longer one once more, or what is found out.
+    fn picked_over(&self, moments: E, trail: &Trail) -> Option<PickedLongitudes<E>> {
         match &self.picked {
-            Some(picked) => Some(picked.copied()),
-            None => None,
+            Some(picked) if picked.covers(moments) => Some(picked.copied()),
+            _ => picked_by(self.longitudes?, moments, trail),
         }
     }
 
     // The sun's terms but the greatest move hundreds of times more slowly than the moon's.
-    /// The linear models over days, counted from noon of 1 January 2000 in dynamical time: the sun's once more where it serves.
-    pub(crate) fn over_days(&self, days: E) -> Self {
-        let picked = self.known_pick();
+    /// The linear model of the sun over days, or once more the one that is known, where it serves.
+    fn sun_over(&self, days: E) -> SunLinearModel<E>
+        ensures there { E.shown days ⊆ E.shown result }
+    {
         if self.sun.serves(days) {
-            return PhaseLinearModel {
-                moon: MoonLinearModel::<E>::of(days, self.sun.nutation()),
-                sun: self.sun.copied(),
-                picked,
-            };
+            return self.sun.copied();
         }
-        let sun = SunLinearModel::<E>::of(days);
-        PhaseLinearModel {
-            moon: MoonLinearModel::<E>::of(days, sun.nutation()),
-            sun,
-            picked,
-        }
+        SunLinearModel::<E>::of(days)
     }
 
-    /// The same linear models, with what is found out about which phase is picked over an interval of moments by longitudes about
-    /// a phase.
-    pub(crate) fn picking(&self, phase: E, moments: E, trail: &Trail) -> Self {
+    /// The linear models over an interval of moments of universal time, or none where its days of dynamical time aren't known.
+    pub(crate) fn over_moments(&self, moments: E, trail: &Trail) -> Option<Self> {
+        let days = days_over(moments, trail)?;
+        let sun = self.sun_over(days);
+        Some(PhaseLinearModel {
+            moon: MoonLinearModel::<E>::of(days, sun.nutation()),
+            sun,
+            longitudes: self.longitudes,
+            picked: self.picked_over(moments, trail),
+        })
+    }
+
+    /// The same linear models for a bisection over an interval of moments, which seeks a phase.
+    pub(crate) fn seeking(&self, phase: E, moments: E, trail: &Trail) -> Self {
+        let longitudes = longitudes_about(phase);
         PhaseLinearModel {
             moon: self.moon.copied(),
             sun: self.sun.copied(),
-            picked: picked_about(phase, moments, trail),
+            longitudes: Some(longitudes),
+            picked: picked_by(longitudes, moments, trail),
         }
     }
 
@@ -65,6 +74,7 @@ impl<E: Enclosure> PhaseLinearModel<E> {
         PhaseLinearModel {
             moon: MoonLinearModel::<E>::usual(),
             sun: SunLinearModel::<E>::always(),
+            longitudes: None,
             picked: None,
         }
     }

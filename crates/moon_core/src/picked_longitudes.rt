@@ -20,6 +20,9 @@ use time_scales::dynamical;
 /// phase at lies nearer than that.
 const DEGREES_ABOUT: i64 = 60;
 
+/// A turn.
+const TURN_DEGREES: i64 = 360;
+
 /// An interval of moments, and one of phases by longitudes, over which these are picked, and by how many tests.
 #[derive(Drop)]
 pub(crate) struct PickedLongitudes<E: Enclosure> {
@@ -46,6 +49,11 @@ impl<E: Enclosure> PickedLongitudes<E> {
             longitudes: self.longitudes,
             tests: self.tests,
         }
+    }
+
+    /// Whether something is known of all these moments.
+    pub(crate) fn covers(&self, moments: E) -> bool {
+        lies_within(moments, self.moments)
     }
 
     /// Whether a phase by longitudes is picked at a moment, as far as is known. Where it is its tests count.
@@ -104,20 +112,28 @@ fn picked_over<E: Enclosure>(
     }
 }
 
-/// The same of the longitudes about a phase, if these are picked over the moments. The tests are no part of a run.
-pub(crate) fn picked_about<E: Enclosure>(
-    phase: E,
+/// The same of longitudes, if these are picked over the moments. About a new moon, where longitudes go from 360 degrees to 0, it isn't
+/// tried. The tests are no part of a run.
+pub(crate) fn picked_by<E: Enclosure>(
+    longitudes: E,
     moments: E,
     trail: &Trail,
 ) -> Option<PickedLongitudes<E>> {
+    let turn = E::from_int(0).hull(E::from_int(TURN_DEGREES));
+    if !lies_within(longitudes, turn) {
+        return None;
+    }
     let mut own = trail.anew();
     match dynamical(moments, &mut own) {
-        Ok(_) => {
-            let about = E::from_int(DEGREES_ABOUT);
-            picked_over(phase.sub(about).hull(phase.add(about)), moments, trail)
-        }
+        Ok(_) => picked_over(longitudes, moments, trail),
         Err(_) => None,
     }
+}
+
+/// The longitudes about a phase of which it is asked whether they are picked.
+pub(crate) fn longitudes_about<E: Enclosure>(phase: E) -> E {
+    let about = E::from_int(DEGREES_ABOUT);
+    phase.sub(about).hull(phase.add(about))
 }
 
 /// The phase by longitudes, or in its place the one by the time: by what is known of which is picked, and else by the tests of

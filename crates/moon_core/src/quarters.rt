@@ -18,7 +18,7 @@ use crate::phases;
 use book_model::new_moon_tables::DEGREE_OF_MONTH;
 use book_model::{Fail, Site};
 use encl_core::{Enclosure, Trail, floor_step, wrap_step};
-use sun_core::{Angular, days_over, invert_angular};
+use sun_core::{Angular, invert_angular};
 
 /// How many days before and after the moment by the mean phase the moon is sought.
 const PHASE_DAYS_ABOUT: i64 = 2;
@@ -38,8 +38,7 @@ impl<E: Enclosure> Angular<E> for PhaseLinearModel<E> {
     }
 
     fn over(&self, interval_of_days: E, trail: &Trail) -> Option<Self> {
-        let days = days_over(interval_of_days, trail)?;
-        Some(self.over_days(days))
+        self.over_moments(interval_of_days, trail)
     }
 
     fn time_of(&self, degrees: E) -> E {
@@ -98,8 +97,8 @@ fn phase_about<E: Enclosure>(
     let days = E::from_int(PHASE_DAYS_ABOUT);
     let low = about.sub(days);
     let high = t.min(about.add(days));
-    let picking = linear_model.picking(phase, low.hull(high), trail);
-    invert_angular::<E, PhaseLinearModel<E>>(&picking, phase, low, high, trail)
+    let seeking = linear_model.seeking(phase, low.hull(high), trail);
+    invert_angular::<E, PhaseLinearModel<E>>(&seeking, phase, low, high, trail)
 }
 
 /// `phase_before`, where the linear models of the moon and the sun are known, over the usual days or over those about the moment.

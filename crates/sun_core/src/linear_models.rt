@@ -38,9 +38,9 @@ pub fn days_over<E: Enclosure>(interval_of_days: E, trail: &Trail) -> Option<E> 
 }
 
 /// Of how many parts of an interval's length another one's is counted.
-const PARTS_OF_LENGTH: i128 = 32;
+const PARTS_OF_LENGTH: i128 = 64;
 
-/// Whether an interval is at most 32 times as long as another.
+/// Whether an interval is at most 64 times as long as another.
 fn is_as_short<E: Enclosure>(interval: E, other: E) -> bool {
     match (interval.span(), other.span()) {
         (Some(long), Some(short)) => match (
@@ -125,7 +125,7 @@ impl<E: Enclosure> SunLinearModel<E> {
     }
 
     /// Whether the linear model serves over such days as well as one that is taken over them alone, for what moves as fast as the
-    /// moon: it holds there, and is no more than 32 times as long.
+    /// moon: it holds there, and is no more than 64 times as long.
     pub fn serves(&self, days: E) -> bool
         ensures there { IsTrue result → E.shown days ⊆ E.shown self.now }
     {
